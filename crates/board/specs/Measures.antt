@@ -4,7 +4,7 @@ use mathlib.Core.Bool.{cond}
 use Prim.Native.Nat.{ℕ, zero, suc, _*_}
 use lib.Dec.{eqb}
 use lib.ListN.{take, drop}
-use Rattle.board.specs.State.{State, enclave-of, entry-of}
+use Rattle.board.specs.State.{State, enclave-of, entry-of, makes-range}
 
 -- the 64 words of physical page f
 abbrev pub page-words : List ℕ → ℕ → List ℕ
@@ -21,8 +21,8 @@ abbrev pub measured-pages : State → ℕ → ℕ → ℕ → List ℕ
 measured-pages s e v zero = []
 measured-pages s e v (suc n) = measured-page s e v ++ measured-pages s e (suc v) n
 
--- first, count, entry, and then each page of the range
+-- first, count, entry, and then each page of the range; where the numbers make no range, there is none
 abbrev pub measured-words : State → ℕ → List ℕ
 measured-words s e =
     let r = enclave-of (s .board) e in
-    r .first ∷ (r .count ∷ (r .entrypoint ∷ measured-pages s e (r .first) (r .count)))
+    r .first ∷ (r .count ∷ (r .entrypoint ∷ cond (makes-range (r .first) (r .count)) (measured-pages s e (r .first) (r .count)) []))

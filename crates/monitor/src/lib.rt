@@ -9,6 +9,7 @@ use parts::enclaves::new_board;
 
 mod accesses;
 mod gate;
+mod life;
 
 #[derive(Drop)]
 pub struct Monitor<M, D> {

@@ -2,7 +2,7 @@
 ghost use mathlib.Core.Path.{_≡_};
 ghost use lib.ListN.{set};
 ghost use Rattle.board.specs.State.{fresh, absent, idle, enclave-of, owner-of, inside};
-ghost use Rattle.board.specs.Effects.{with-enclave};
+ghost use Rattle.board.specs.Effects.{with-enclave, with-owners, released, forgotten};
 use crate::entries::UNMAPPED;
 use crate::items::*;
 use crate::range::Range;
@@ -60,6 +60,33 @@ pub fn owner(board: &Board, frame: u8) -> u8
     ensures { λ r. ⌜ r ≡ owner-of (now (board .entry)) frame ⌝ }
 {
     pick(&board.owners, frame as usize, 0)
+}
+
+// Gives a physical page to a party, where there is such a page.
+pub fn set_owner(board: &mut Board, frame: u8, party: u8)
+    ensures { λ _. ⌜ now (board .exit) ≡ with-owners (now (board .entry)) (set (now (board .entry) .owners) frame party) ⌝ }
+{
+    put(&mut board.owners, frame as usize, party);
+}
+
+// Gives every page of an enclave to the host.
+fn release(owners: &mut [u8], number: u8)
+    ensures { λ _. ⌜ now (owners .exit) ≡ released (now (owners .entry)) number ⌝ }
+{
+    for owner in owners.iter_mut() {
+        if *owner == number {
+            *owner = 0;
+        }
+    }
+}
+
+// Gives the pages of an enclave to the host, and makes its map and its record as at first.
+pub fn forget(board: &mut Board, number: u8)
+    ensures { λ _. ⌜ now (board .exit) ≡ forgotten (now (board .entry)) number ⌝ }
+{
+    release(&mut board.owners, number);
+    put(&mut board.maps, number as usize, [UNMAPPED; 64]);
+    set_enclave(board, number, ABSENT);
 }
 
 // Whether a virtual page is inside the range of an enclave.

@@ -2,11 +2,11 @@
 ghost use mathlib.Core.Path.{_≡_};
 ghost use lib.ListN.{set};
 ghost use Rattle.board.specs.State.{entry-of};
-ghost use Rattle.board.specs.Effects.{with-entry};
+ghost use Rattle.board.specs.Effects.{with-entry, marked};
 use crate::items::*;
 use board::*;
 
-pub const UNMAPPED: Entry = Entry {
+pub(crate) const UNMAPPED: Entry = Entry {
     frame: 0,
     permission: 0,
     accessed: false,
@@ -36,4 +36,22 @@ pub fn set_entry(board: &mut Board, party: u8, page: u16, entry: Entry)
     if (party as usize) < maps.len() {
         put_entry(&mut maps[party as usize], page, entry);
     }
+}
+
+// Marks the running party's entry for an address.
+pub fn mark(board: &mut Board, address: u16)
+    ensures { λ _. ⌜ now (board .exit) ≡ marked (now (board .entry)) address ⌝ }
+{
+    let page = address / 64;
+    let party = board.running;
+    let used = entry(board, party, page);
+    set_entry(
+        board,
+        party,
+        page,
+        Entry {
+            accessed: true,
+            ..used
+        },
+    );
 }

@@ -1,10 +1,7 @@
-// Code on the board: reads and writes of its parts, the range type, the step of an enclave's record, and the questions
-// that are put to each call. Every function equals its definition of the bare board for all arguments.
-pub mod access;
+// Reads and writes of the board's parts, and the range type. Every function equals its definition of the bare board for
+// all arguments.
 pub mod enclaves;
 pub mod entries;
 mod items;
-pub mod phases;
-pub mod questions;
 pub mod range;
 pub mod registers;

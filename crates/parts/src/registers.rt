@@ -1,21 +1,9 @@
 // The running party's registers.
 ghost use mathlib.Core.Path.{_≡_};
-ghost use mathlib.Core.List.{[], _∷_};
-ghost use lib.Dec.{ltb};
 ghost use lib.ListN.{getD, set};
-ghost use Rattle.board.specs.Questions.{ask};
 ghost use Rattle.board.specs.Effects.{with-live};
-ghost use Rattle.parts.specs.Ruled.{Ruled};
 use crate::items::*;
-use crate::questions::ask;
 use board::*;
-
-// Of a register call.
-pub fn may_use_register(number: u8) -> Result<(), Decline>
-    ensures { λ r. ⌜ Ruled (ask 3 (ltb number 8) ∷ []) tt r ⌝ }
-{
-    ask(number < 8, Decline::OutOfLimits)
-}
 
 // A register, or 0 where there is none.
 pub fn register(board: &Board, number: u8) -> u32

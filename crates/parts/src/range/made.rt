@@ -1,5 +1,6 @@
 // The one function that makes a range, and its use.
 ghost use mathlib.Core.Path.{_≡_};
+ghost use Prim.Native.Nat.{_+_};
 ghost use Rattle.board.specs.State.{covers};
 ghost use Rattle.parts.specs.Ranges.{Made};
 use super::Range;
@@ -14,6 +15,20 @@ impl Range {
         } else {
             None
         }
+    }
+
+    // Its first page.
+    pub fn first(&self) -> u8
+        ensures { λ r. ⌜ r ≡ now (self .entry) .first ⌝ }
+    {
+        self.first
+    }
+
+    // The page after its last.
+    pub fn end(&self) -> u8
+        ensures { λ r. ⌜ r ≡ now (self .entry) .first + now (self .entry) .count ⌝ }
+    {
+        self.first + self.count
     }
 
     pub fn contains(&self, page: u16) -> bool

@@ -1,9 +1,9 @@
 // The step of an enclave's record.
 ghost use mathlib.Core.Path.{_≡_};
-ghost use Rattle.parts.specs.Phases.{stepped};
-use crate::enclaves::ABSENT;
-use crate::enclaves::IDLE;
+ghost use Rattle.questions.specs.Phases.{stepped};
 use board::*;
+use parts::enclaves::ABSENT;
+use parts::enclaves::IDLE;
 
 // The record after a call on its enclave, or the decline where the phase is not right for the call.
 pub fn step(enclave: Enclave, call: Call) -> Result<Enclave, Decline>

@@ -1,16 +1,17 @@
-// Accesses of the running party: where an address lies, and the mark that an access leaves.
+// The questions of an access by the running party, and where its address lies. `size` is how many words
+// the memory has.
 ghost use mathlib.Core.Path.{_≡_};
 ghost use mathlib.Core.List.{_∷_};
-ghost use lib.Dec.{ltb};
+ghost use lib.Dec.{ltb, eqb};
 ghost use Rattle.board.specs.declared.Call.the-variants.{Fetch};
 ghost use Rattle.board.specs.State.{place-of, page-of};
 ghost use Rattle.board.specs.Questions.{ask, permits, questions, access-questions, rightful-owner};
-ghost use Rattle.board.specs.Effects.{marked};
-ghost use Rattle.parts.specs.Ruled.{Ruled};
-use crate::enclaves::*;
-use crate::entries::*;
-use crate::questions::ask;
+ghost use Rattle.questions.specs.Ruled.{Ruled};
+use crate::ask::ask;
+use crate::ask::ask_size;
 use board::*;
+use parts::enclaves::*;
+use parts::entries::entry;
 
 pub const READ: u8 = 1;
 
@@ -50,39 +51,23 @@ fn reach(board: &Board, address: u16, right: u8) -> Result<usize, Decline>
 }
 
 // The questions of a load (right 1) or a store (right 2); the place in memory where the address lies.
-pub fn reach_data(board: &Board, address: u16, right: u8) -> Result<usize, Decline>
-    ensures { λ r. ⌜ Ruled (ask 3 (ltb address 4096) ∷ access-questions (now (board .entry)) right address) (place-of (now (board .entry)) address) r ⌝ }
+pub fn reach_data(size: usize, board: &Board, address: u16, right: u8) -> Result<usize, Decline>
+    ensures { λ r. ⌜ Ruled (ask 1 (eqb size 4096) ∷ ask 3 (ltb address 4096) ∷ access-questions (now (board .entry)) right address) (place-of (now (board .entry)) address) r ⌝ }
 {
+    ask_size(size)?;
     ask(address < 4096, Decline::OutOfLimits)?;
     reach(board, address, right)
 }
 
 // The questions of a fetch; the place in memory where the address lies.
-pub fn reach_code(board: &Board, address: u16) -> Result<usize, Decline>
-    ensures { λ r. ⌜ Ruled (questions (Fetch address) (now (board .entry))) (place-of (now (board .entry)) address) r ⌝ }
+pub fn reach_code(size: usize, board: &Board, address: u16) -> Result<usize, Decline>
+    ensures { λ r. ⌜ Ruled (ask 1 (eqb size 4096) ∷ questions (Fetch address) (now (board .entry))) (place-of (now (board .entry)) address) r ⌝ }
 {
+    ask_size(size)?;
     ask(address < 4096, Decline::OutOfLimits)?;
     ask(
         board.running == 0 || is_inside(board, board.running, address / 64),
         Decline::WrongSide,
     )?;
     reach(board, address, EXECUTE)
-}
-
-// Marks the running party's entry for an address.
-pub fn mark(board: &mut Board, address: u16)
-    ensures { λ _. ⌜ now (board .exit) ≡ marked (now (board .entry)) address ⌝ }
-{
-    let page = address / 64;
-    let party = board.running;
-    let used = entry(board, party, page);
-    set_entry(
-        board,
-        party,
-        page,
-        Entry {
-            accessed: true,
-            ..used
-        },
-    );
 }

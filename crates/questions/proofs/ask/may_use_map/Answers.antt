@@ -1,6 +1,6 @@
 use borrow.Author.Needs.{needs}
-use Rattle.parts.proofs.Declines.{was-no}
-use Rattle.parts.proofs.questions.may_use_map.Needs as need
+use Rattle.questions.proofs.Declines.{was-no}
+use Rattle.questions.proofs.ask.may_use_map.Needs as need
 
 pub returns-in-Break-ask-phase : need.returns-in-Break-ask-phase
 returns-in-Break-ask-phase c =

@@ -1,19 +1,21 @@
 // The questions that are put to each call, in rising order: the first no declines it.
+// `size` is how many words the memory has.
 ghost use mathlib.Core.Path.{_≡_};
 ghost use mathlib.Core.List.{[], _∷_};
 ghost use mathlib.Core.Bool.{cond, not};
+ghost use lib.Dec.{ltb, eqb};
 ghost use Rattle.std.specs.declared.result.Result.the-variants.{Ok, Err};
 ghost use Rattle.board.specs.declared.Call.the-variants.{Open, Add, Finish, ReadMap, WriteMap};
 ghost use Rattle.board.specs.State.{enclave-of, entry-of};
 ghost use Rattle.board.specs.Questions.{questions, ask, record-questions, map-questions, in-phase-for, host-runs, is-enclave};
-ghost use Rattle.parts.specs.Ruled.{Ruled};
-ghost use Rattle.parts.specs.Phases.{moved};
+ghost use Rattle.questions.specs.Ruled.{Ruled};
+ghost use Rattle.questions.specs.Phases.{moved};
 use crate::access::*;
-use crate::enclaves::*;
-use crate::entries::*;
 use crate::phases::step;
-use crate::range::Range;
 use board::*;
+use parts::enclaves::*;
+use parts::entries::entry;
+use parts::range::Range;
 
 // One question: the decline, unless the answer is yes.
 pub(crate) fn ask(yes: bool, or: Decline) -> Result<(), Decline>
@@ -28,9 +30,18 @@ fn is_enclave(number: u8) -> bool
     1 <= number && number <= 8
 }
 
-fn ask_host(board: &Board) -> Result<(), Decline>
-    ensures { λ r. ⌜ r ≡ cond (host-runs (now (board .entry))) (Ok tt) (Err Decline.WrongParty) ⌝ }
+// Question 1: the memory has so many words.
+pub(crate) fn ask_size(size: usize) -> Result<(), Decline>
+    ensures { λ r. ⌜ r ≡ cond (eqb size 4096) (Ok tt) (Err Decline.WrongMemory) ⌝ }
 {
+    ask(size == 4096, Decline::WrongMemory)
+}
+
+// Questions 1 and 2 of a call that needs the host.
+fn ask_host(size: usize, board: &Board) -> Result<(), Decline>
+    ensures { λ r. ⌜ r ≡ cond (eqb size 4096) (cond (host-runs (now (board .entry))) (Ok tt) (Err Decline.WrongParty)) (Err Decline.WrongMemory) ⌝ }
+{
+    ask_size(size)?;
     ask(board.running == 0, Decline::WrongParty)
 }
 
@@ -43,15 +54,16 @@ fn ask_phase(board: &Board, number: u8, call: Call) -> Result<Enclave, Decline>
 
 // Of open; the record of the new draft.
 pub fn may_open(
+    size: usize,
     board: &Board,
     number: u8,
     first: u8,
     count: u8,
     entrypoint: u16,
 ) -> Result<Enclave, Decline>
-    ensures { λ r. ⌜ Ruled (questions (Open number first count entrypoint) (now (board .entry))) (moved (Open number first count entrypoint) (enclave-of (now (board .entry)) number)) r ⌝ }
+    ensures { λ r. ⌜ Ruled (ask 1 (eqb size 4096) ∷ questions (Open number first count entrypoint) (now (board .entry))) (moved (Open number first count entrypoint) (enclave-of (now (board .entry)) number)) r ⌝ }
 {
-    ask_host(board)?;
+    ask_host(size, board)?;
     ask(is_enclave(number), Decline::OutOfLimits)?;
     let range = Range::new(first, count).ok_or(Decline::OutOfLimits)?;
     ask(range.contains(entrypoint / 64), Decline::OutOfLimits)?;
@@ -69,15 +81,16 @@ pub fn may_open(
 
 // Of add.
 pub fn may_add(
+    size: usize,
     board: &Board,
     number: u8,
     page: u8,
     frame: u8,
     permission: u8,
 ) -> Result<(), Decline>
-    ensures { λ r. ⌜ Ruled (questions (Add number page frame permission) (now (board .entry))) tt r ⌝ }
+    ensures { λ r. ⌜ Ruled (ask 1 (eqb size 4096) ∷ questions (Add number page frame permission) (now (board .entry))) tt r ⌝ }
 {
-    ask_host(board)?;
+    ask_host(size, board)?;
     ask(
         is_enclave(number) && page < 64 && frame < 64 && 1 <= permission && permission <= 7,
         Decline::OutOfLimits,
@@ -101,29 +114,38 @@ pub fn may_add(
 }
 
 // Of abandon, destroy, enter or resume of this enclave; its record after the call.
-pub fn may_step(board: &Board, number: u8, call: Call) -> Result<Enclave, Decline>
-    ensures { λ r. ⌜ Ruled (record-questions call (now (board .entry)) number) (moved call (enclave-of (now (board .entry)) number)) r ⌝ }
+pub fn may_step(size: usize, board: &Board, number: u8, call: Call) -> Result<Enclave, Decline>
+    ensures { λ r. ⌜ Ruled (ask 1 (eqb size 4096) ∷ record-questions call (now (board .entry)) number) (moved call (enclave-of (now (board .entry)) number)) r ⌝ }
 {
-    ask_host(board)?;
+    ask_host(size, board)?;
     ask(is_enclave(number), Decline::OutOfLimits)?;
     ask_phase(board, number, call)
 }
 
 // Of finish; the enclave's record after it, but for its measurement.
-pub fn may_finish(board: &Board, number: u8) -> Result<Enclave, Decline>
-    ensures { λ r. ⌜ Ruled (questions (Finish number) (now (board .entry))) (moved (Finish number) (enclave-of (now (board .entry)) number)) r ⌝ }
+pub fn may_finish(size: usize, board: &Board, number: u8) -> Result<Enclave, Decline>
+    ensures { λ r. ⌜ Ruled (ask 1 (eqb size 4096) ∷ questions (Finish number) (now (board .entry))) (moved (Finish number) (enclave-of (now (board .entry)) number)) r ⌝ }
 {
-    let finished = may_step(board, number, Call::Finish { enclave: number })?;
+    let finished = may_step(size, board, number, Call::Finish { enclave: number })?;
     let code = entry(board, number, finished.entrypoint / 64);
     ask(entry_permits(code, EXECUTE), Decline::NotPermitted)?;
     Ok(finished)
 }
 
 // Of exit, pause or attest: an enclave runs.
-pub fn may_leave(board: &Board) -> Result<(), Decline>
-    ensures { λ r. ⌜ Ruled (ask 2 (not (host-runs (now (board .entry)))) ∷ []) tt r ⌝ }
+pub fn may_leave(size: usize, board: &Board) -> Result<(), Decline>
+    ensures { λ r. ⌜ Ruled (ask 1 (eqb size 4096) ∷ ask 2 (not (host-runs (now (board .entry)))) ∷ []) tt r ⌝ }
 {
+    ask_size(size)?;
     ask(board.running != 0, Decline::WrongParty)
+}
+
+// Of a register call.
+pub fn may_use_register(size: usize, number: u8) -> Result<(), Decline>
+    ensures { λ r. ⌜ Ruled (ask 1 (eqb size 4096) ∷ ask 3 (ltb number 8) ∷ []) tt r ⌝ }
+{
+    ask_size(size)?;
+    ask(number < 8, Decline::OutOfLimits)
 }
 
 // Questions 4 and 5 of a map call.
@@ -138,10 +160,10 @@ fn may_use_map(board: &Board, party: u8, page: u8, call: Call) -> Result<(), Dec
 }
 
 // Of read map; the entry.
-pub fn may_read_map(board: &Board, party: u8, page: u8) -> Result<Entry, Decline>
-    ensures { λ r. ⌜ Ruled (questions (ReadMap party page) (now (board .entry))) (entry-of (now (board .entry)) party page) r ⌝ }
+pub fn may_read_map(size: usize, board: &Board, party: u8, page: u8) -> Result<Entry, Decline>
+    ensures { λ r. ⌜ Ruled (ask 1 (eqb size 4096) ∷ questions (ReadMap party page) (now (board .entry))) (entry-of (now (board .entry)) party page) r ⌝ }
 {
-    ask_host(board)?;
+    ask_host(size, board)?;
     ask(party <= 8 && page < 64, Decline::OutOfLimits)?;
     may_use_map(board, party, page, Call::ReadMap { party, page })?;
     Ok(entry(board, party, page.into()))
@@ -149,15 +171,16 @@ pub fn may_read_map(board: &Board, party: u8, page: u8) -> Result<Entry, Decline
 
 // Of write map.
 pub fn may_write_map(
+    size: usize,
     board: &Board,
     party: u8,
     page: u8,
     frame: u8,
     permission: u8,
 ) -> Result<(), Decline>
-    ensures { λ r. ⌜ Ruled (questions (WriteMap party page frame permission) (now (board .entry))) tt r ⌝ }
+    ensures { λ r. ⌜ Ruled (ask 1 (eqb size 4096) ∷ questions (WriteMap party page frame permission) (now (board .entry))) tt r ⌝ }
 {
-    ask_host(board)?;
+    ask_host(size, board)?;
     ask(
         party <= 8 && page < 64 && frame < 64 && permission <= 7,
         Decline::OutOfLimits,

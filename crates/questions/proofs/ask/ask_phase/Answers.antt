@@ -4,14 +4,14 @@ use mathlib.Core.Bool.{Bool, true, false}
 use Rattle.board.specs.declared.Call.{Call}
 use Rattle.board.specs.declared.Enclave.{Enclave}
 use Rattle.board.specs.Questions.{ask, phase-suits}
-use Rattle.parts.specs.Ruled.{Ruled}
-use Rattle.parts.specs.Phases.{moved, stepped}
+use Rattle.questions.specs.Ruled.{Ruled}
+use Rattle.questions.specs.Phases.{moved, stepped}
 use Rattle.std.specs.declared.result.Result.{Result}
 use Rattle.std.specs.declared.result.Result.the-variants.{Ok, Err}
 use Rattle.board.specs.declared.Decline.{Decline}
 use Rattle.board.specs.declared.Decline.the-variants.{WrongPhase}
 use mathlib.Core.Bool.{cond}
-use Rattle.parts.proofs.questions.ask_phase.Needs as need
+use Rattle.questions.proofs.ask.ask_phase.Needs as need
 
 -- one question decides between a value and its decline
 decided : {A : Type 0} (yes : Bool) (x : A) → Ruled (ask 4 yes ∷ []) x (cond yes (Ok x) (Err WrongPhase))
