@@ -1,5 +1,7 @@
 // The board's state apart from its memory's words, the calls of its gate and their answers.
 // What each call answers and changes is defined in specs/.
+ghost use mathlib.Core.Path.{_≡_};
+ghost use Rattle.board.specs.Answers.{decline-number};
 
 #[derive(Clone, Copy, PartialEq, Eq)]
 pub enum Phase {
@@ -122,6 +124,24 @@ pub enum Decline {
     NotPermitted,
     NotEmpty,
     WrongOwner,
+}
+
+impl Decline {
+    // The number of the question that was answered no.
+    pub fn number(self) -> u32
+        ensures { λ r. ⌜ r ≡ decline-number self ⌝ }
+    {
+        match self {
+            Decline::WrongMemory => 1,
+            Decline::WrongParty => 2,
+            Decline::OutOfLimits => 3,
+            Decline::WrongPhase => 4,
+            Decline::WrongSide => 5,
+            Decline::NotPermitted => 6,
+            Decline::NotEmpty => 7,
+            Decline::WrongOwner => 8,
+        }
+    }
 }
 
 // What the gate answers to a call.

@@ -131,6 +131,11 @@ pub impl Digest for Fold as FoldDigest {
     }
 }
 
+// The pads of HMAC: what each word of the key's block is masked with.
+const INNER: u32 = 0x36363636;
+
+const OUTER: u32 = 0x5c5c5c5c;
+
 // Feeds a word where there is room.
 fn put<D: Digest>(digest: &mut D, word: u32)
     requires { ⌜ count (now digest) < 65536 ⌝ }
@@ -174,7 +179,7 @@ fn close<D: Digest>(digest: &mut D, key: &[u32; 8]) -> [u32; 8]
     ensures count { λ _. ⌜ count (now (digest .exit)) ≡ 0 ⌝ }
 {
     let inner = digest.result();
-    put_key(digest, key, 0x5c5c5c5c);
+    put_key(digest, key, OUTER);
     put_all(digest, &inner);
     let tag = digest.result();
     digest.clear();
@@ -191,7 +196,7 @@ pub fn hmac<D: Digest>(digest: &mut D, key: &[u32; 8], text: &[u32]) -> Result<[
     if text.len() > 65536 - D::BLOCK.words() {
         return Err(Fault::Full);
     }
-    put_key(digest, key, 0x36363636);
+    put_key(digest, key, INNER);
     put_all(digest, text);
     Ok(close(digest, key))
 }
@@ -202,7 +207,7 @@ pub fn tag<D: Digest>(digest: &mut D, key: &[u32; 8], measurement: &[u32; 8], wo
     ensures state { λ _. ⌜ state (now (digest .exit)) ≡ meaning .first ⌝ }
     ensures count { λ _. ⌜ count (now (digest .exit)) ≡ 0 ⌝ }
 {
-    put_key(digest, key, 0x36363636);
+    put_key(digest, key, INNER);
     put_all(digest, measurement);
     put(digest, word);
     close(digest, key)

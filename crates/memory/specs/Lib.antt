@@ -1,1 +1,4 @@
 pub mod Words
+pub mod Placed
+pub mod Fills
+pub mod Images

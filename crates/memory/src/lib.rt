@@ -5,8 +5,11 @@ ghost use Prim.Native.Nat.{ℕ, _≤_};
 ghost use lib.ListN.{length};
 ghost use Rattle.memory.specs.Words.{fault-number, fetched, stored, replaced};
 
+pub mod image;
 pub mod word;
 
+pub use crate::image::ImageMemory;
+pub use crate::image::ImageMemoryMemory;
 pub use crate::word::WordMemory;
 pub use crate::word::WordMemoryMemory;
 

@@ -42,10 +42,11 @@ pub impl<'a> Memory for WordMemory<'a> as WordMemoryMemory {
         ensures declined { λ _. ⌜ (length (now (now (self .entry) .area)) ≤ place → now (self .exit) ≡ now (self .entry)) ⌝ }
         ensures still { λ _. ⌜ now (self .exit) ≡ now (self .entry) ⌝ }
     {
-        if place >= self.area.len() {
-            return Err(Fault::OutOfRange);
+        if place < self.area.len() {
+            Ok(self.area[place])
+        } else {
+            Err(Fault::OutOfRange)
         }
-        Ok(self.area[place])
     }
 
     // A write goes to the same slice.

@@ -7,8 +7,11 @@ ghost use Rattle.records.specs.declared.ReadFault.{ReadFault};
 ghost use Rattle.records.specs.Faults.{fault-number, fault-place, fault-kind, no-room-number, admitted, with-done};
 
 mod reader;
+mod writer;
 
 pub use reader::read;
+pub use writer::kind;
+pub use writer::write;
 
 // Why no record is read, with the place of its first byte. A file that is too long is not read at all.
 #[derive(Clone, Copy)]

@@ -26,7 +26,7 @@ module _ {M D : Type 0} (m : Memory.Ghosts M) (h : Meaning) where
       let after : step h (g .key) c (state-of m g) .state ≡ state-of m k = ap (λ (o : Outcome). o .state) (d .stepped) in
       let reply : step h (g .key) c (state-of m g) .reply ≡ reply-of a = ap (λ (o : Outcome). o .reply) (d .stepped) in
       let rest : run h (k .key) (state-of m k) cs ≡ run h (g .key) (step h (g .key) c (state-of m g) .state) cs =
-          ap₂ (λ (key : List ℕ) (s : State). run h key s cs) (d .same-key) (sym after) in
+      ap₂ (λ (key : List ℕ) (s : State). run h key s cs) (d .same-key) (sym after) in
       record {
         monitors = k ∷ r .monitors;
         each = (d, r .each);

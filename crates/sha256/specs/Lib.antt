@@ -1,0 +1,4 @@
+pub mod Functions
+pub mod Compression
+pub mod Message
+pub mod Stream
