@@ -4,3 +4,10 @@ pub mod Questions
 pub mod Measures
 pub mod Effects
 pub mod Steps
+pub mod Kinds
+pub mod Sight
+pub mod Lives
+pub mod Measurements
+pub mod Laws
+pub mod Examples
+pub mod Leaks

@@ -3,6 +3,8 @@
 ghost use mathlib.Core.Path.{_≡_};
 ghost use Rattle.board.specs.Answers.{decline-number};
 
+pub mod laws;
+
 #[derive(Clone, Copy, PartialEq, Eq)]
 pub enum Phase {
     Absent,

@@ -5,6 +5,7 @@ use Prim.Native.Nat.{ℕ}
 use lib.ListN.{length, getD, replicate}
 use Rattle.digest.specs.Meaning.{hash}
 use Rattle.digest.specs.Fold.{fold-meaning}
+use Rattle.scrambler.specs.Pads.{pad}
 use Rattle.board.specs.declared.Call.{Call}
 use Rattle.board.specs.declared.Call.the-variants.{Open, Add, Finish, Destroy, Exit, Load}
 use Rattle.board.specs.State.{start}
@@ -52,6 +53,8 @@ table =
     -- destroy of a draft; exit by the host
     ∷ calls (draft ∷ Destroy 3 ∷ []) (0 ∷ 4 ∷ [])
     ∷ calls (Exit ∷ []) (2 ∷ [])
+    -- the scrambler's pad of place 33 under key 1
+    ∷ value (pad 1 33) 35
     -- the fold of 1 and then eight zeros has 2 in lane 0
     ∷ value (getD (hash fold-meaning (1 ∷ replicate 8 0)) 0 0) 2
     ∷ []

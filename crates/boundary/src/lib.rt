@@ -8,5 +8,5 @@ pub fn boundary_runs() -> usize
     ensures rows { λ r. ⌜ r ≡ length table ⌝ }
     ensures hold { λ _. ⌜ Each-answers-as-listed ⌝ }
 {
-    15
+    16
 }

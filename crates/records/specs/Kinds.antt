@@ -42,6 +42,7 @@ pub record Row : Type 0 where
 abbrev pub row : ℕ → (ws : List Width) → Maker ws → Row
 row k ws f = record { kind = k; widths = ws; call = f }
 
+-- the table, one row for each kind; the length of a body is the total of its widths
 abbrev pub rows : List Row
 rows =
     row 1 (byte ∷ byte ∷ byte ∷ half ∷ []) Open
@@ -82,6 +83,7 @@ body-length k = length-by (row-of k rows)
 abbrev pub Field : Type 0
 Field = Width × ℕ
 
+-- a record before it is spelled out: its kind and its fields
 pub record Layout : Type 0 where
   pub kind : ℕ
   pub fields : List Field
@@ -109,5 +111,6 @@ layout (ReadMap party page) = of-kind 15 ((byte, party) ∷ (byte, page) ∷ [])
 layout (WriteMap party page frame permission) = of-kind 16 ((byte, party) ∷ (byte, page) ∷ (byte, frame) ∷ (byte, permission) ∷ [])
 layout (Attest value) = of-kind 17 ((word, value) ∷ [])
 
+-- the byte of kind of a call
 abbrev pub kind-of : Call → ℕ
 kind-of c = layout c .kind

@@ -83,7 +83,7 @@ seen (Ok None) = Ok None
 seen (Ok (Some p)) = Ok (Some (p .0, p .1 .now))
 seen (Err f) = Err f
 
--- ---- one the other way round
+-- ---- reading undoes writing, and writing undoes reading
 
 -- the numbers of a field are below this
 abbrev pub limit : Width → ℕ
