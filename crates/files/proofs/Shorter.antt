@@ -14,10 +14,10 @@ use Rattle.std.specs.declared.option.Option.the-variants.{Some, None}
 use Rattle.std.specs.declared.result.Result.{Result}
 use Rattle.std.specs.declared.result.Result.the-variants.{Ok, Err}
 use Rattle.board.specs.declared.Call.{Call}
-use Rattle.records.specs.declared.ReadFault.{ReadFault}
-use Rattle.records.specs.declared.ReadFault.the-variants.{UnknownKind}
-use Rattle.records.specs.declared.RunFault.{RunFault}
-use Rattle.records.specs.Faults.{with-done}
+use Rattle.faults.specs.declared.ReadFault.{ReadFault}
+use Rattle.faults.specs.declared.ReadFault.the-variants.{UnknownKind}
+use Rattle.faults.specs.declared.RunFault.{RunFault}
+use Rattle.faults.specs.Faults.{with-done}
 use Rattle.records.specs.Kinds.{Row, rows, row-of, total}
 use Rattle.records.specs.Records.{Read, seen, call-at, by-row, parse}
 use Rattle.files.specs.Files.{Placed, Filed, heard, ends, before, after-read, filed-from, end-by}

@@ -11,9 +11,9 @@ use Rattle.std.specs.declared.option.Option.the-variants.{Some, None}
 use Rattle.std.specs.declared.result.Result.{Result}
 use Rattle.std.specs.declared.result.Result.the-variants.{Ok, Err}
 use Rattle.board.specs.declared.Call.{Call}
-use Rattle.records.specs.declared.ReadFault.{ReadFault}
-use Rattle.records.specs.declared.ReadFault.the-variants.{TooLong, UnknownKind}
-use Rattle.records.specs.declared.RunFault.{RunFault}
+use Rattle.faults.specs.declared.ReadFault.{ReadFault}
+use Rattle.faults.specs.declared.ReadFault.the-variants.{TooLong, UnknownKind}
+use Rattle.faults.specs.declared.RunFault.{RunFault}
 use Rattle.records.specs.Records.{Read, parse}
 use Rattle.files.specs.declared.File.{File}
 

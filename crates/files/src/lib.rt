@@ -8,7 +8,8 @@ ghost use Rattle.std.specs.Vec.{made};
 ghost use Rattle.records.specs.Records.{seen};
 ghost use Rattle.files.specs.Files.{heard, filed, filed-from, places-of, calls-of, ended, Is-filed};
 use board::Call;
-use records::*;
+use faults::*;
+use records::read;
 use std::alloc::AllocError;
 use std::alloc::Global;
 

@@ -8,8 +8,8 @@ use Rattle.std.specs.declared.result.Result.{Result}
 use Rattle.std.specs.declared.result.Result.the-variants.{Ok, Err}
 use Rattle.board.specs.declared.Call.{Call}
 use Rattle.board.specs.Answers.{Reply, declining}
-use Rattle.records.specs.declared.RunFault.{RunFault}
-use Rattle.records.specs.Faults.{fault-number, fault-place, fault-kind}
+use Rattle.faults.specs.declared.RunFault.{RunFault}
+use Rattle.faults.specs.Faults.{fault-number, fault-place, fault-kind}
 use Rattle.records.specs.Kinds.{kind-of}
 use Rattle.files.specs.Files.{Filed, places-of, calls-of, ended}
 

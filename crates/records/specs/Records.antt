@@ -11,9 +11,9 @@ use Rattle.std.specs.declared.option.Option.the-variants.{Some, None}
 use Rattle.std.specs.declared.result.Result.{Result}
 use Rattle.std.specs.declared.result.Result.the-variants.{Ok, Err}
 use Rattle.board.specs.declared.Call.{Call}
-use Rattle.records.specs.declared.ReadFault.{ReadFault}
-use Rattle.records.specs.declared.ReadFault.the-variants.{UnknownKind, ShortBody}
-use Rattle.records.specs.declared.NoRoom.{NoRoom}
+use Rattle.faults.specs.declared.ReadFault.{ReadFault}
+use Rattle.faults.specs.declared.ReadFault.the-variants.{UnknownKind, ShortBody}
+use Rattle.faults.specs.declared.NoRoom.{NoRoom}
 use Rattle.records.specs.Kinds.{Width, byte, half, word, size, total, Maker, Row, rows, row-of, Field, layout, kind-of}
 
 -- ---- what is written of a call

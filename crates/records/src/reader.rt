@@ -6,8 +6,8 @@ ghost use Rattle.std.specs.declared.result.Result.the-variants.{Ok};
 ghost use Rattle.board.specs.declared.Call.{Call};
 ghost use Rattle.records.specs.Kinds.{body-length};
 ghost use Rattle.records.specs.Records.{recorded, lacking, parse, seen, Fits, Back};
-use super::ReadFault;
 use board::Call;
+use faults::ReadFault;
 
 // How many bytes the body of a kind has.
 fn body_length(kind: u8) -> Option<usize>

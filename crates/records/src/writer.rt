@@ -5,8 +5,8 @@ ghost use Rattle.std.specs.declared.option.Option.the-variants.{Some};
 ghost use Rattle.std.specs.declared.result.Result.the-variants.{Ok};
 ghost use Rattle.records.specs.Kinds.{kind-of};
 ghost use Rattle.records.specs.Records.{recorded, placed, counted, parse, Fits};
-use super::NoRoom;
 use board::Call;
+use faults::NoRoom;
 
 // The byte of kind that a call's record begins with.
 pub fn kind(call: Call) -> u8

@@ -1,9 +1,9 @@
 // Reads a file of records from standard input, makes its calls to a new board over a memory of zeros, and prints their log.
+use faults::LONGEST;
 use logs::run_file;
 use memory::WordMemory;
 use memory::WordMemoryMemory;
 use monitor::Monitor;
-use records::LONGEST;
 use sha256::Sha256;
 use sha256::Sha256Digest;
 use std::error::AnyError;

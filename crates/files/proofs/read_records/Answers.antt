@@ -8,8 +8,8 @@ use Rattle.std.specs.declared.result.Result.{Result}
 use Rattle.std.specs.declared.result.Result.the-variants.{Ok, Err}
 use Rattle.std.specs.Of.Vec.{vec-items}
 use Rattle.std.specs.Results.{ErrBy}
-use Rattle.records.specs.declared.ReadFault.{ReadFault}
-use Rattle.records.specs.declared.RunFault.{RunFault}
+use Rattle.faults.specs.declared.ReadFault.{ReadFault}
+use Rattle.faults.specs.declared.RunFault.{RunFault}
 use Rattle.files.specs.Files.{Placed, heard}
 use Rattle.files.proofs.Shorter.{fewer-left, none-left, was-some, was-none, was-fault, one-more, stops, items-more, items-end, count-more, count-end}
 use Rattle.files.proofs.read_records.Needs as need

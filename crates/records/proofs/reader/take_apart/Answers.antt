@@ -1,7 +1,7 @@
 use borrow.Author.Needs.{needs}
 use mathlib.Core.Path.{refl, ap, _∙_}
 use Rattle.std.specs.declared.result.Result.the-variants.{Err}
-use Rattle.records.specs.declared.ReadFault.{ReadFault}
+use Rattle.faults.specs.declared.ReadFault.{ReadFault}
 use Rattle.records.specs.Records.{Read}
 use Rattle.records.proofs.Arms.{arm, stop}
 use Rattle.records.proofs.reader.take_apart.Needs as need

@@ -6,9 +6,9 @@ use lib.Dec.{leb}
 use lib.ListN.{length}
 use Rattle.std.specs.declared.result.Result.{Result}
 use Rattle.std.specs.declared.result.Result.the-variants.{Ok, Err}
-use Rattle.records.specs.declared.ReadFault.{ReadFault}
-use Rattle.records.specs.declared.ReadFault.the-variants.{TooLong, UnknownKind, ShortBody}
-use Rattle.records.specs.declared.NoRoom.{NoRoom}
+use Rattle.faults.specs.declared.ReadFault.{ReadFault}
+use Rattle.faults.specs.declared.ReadFault.the-variants.{TooLong, UnknownKind, ShortBody}
+use Rattle.faults.specs.declared.NoRoom.{NoRoom}
 
 -- the number of the question that was answered no: the file too long, the kind not known, the body not whole
 abbrev pub fault-number : ReadFault → ℕ
