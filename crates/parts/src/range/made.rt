@@ -28,7 +28,7 @@ impl Range {
     pub fn end(&self) -> u8
         ensures { λ r. ⌜ r ≡ now (self .entry) .first + now (self .entry) .count ⌝ }
     {
-        self.first + self.count
+        self.count + self.first
     }
 
     pub fn contains(&self, page: u16) -> bool
