@@ -1,5 +1,7 @@
 // The board's state apart from its memory's words, the calls of its gate and their answers.
 // What each call answers and changes is defined in specs/.
+#![tactic(auto)]
+
 ghost use Rattle.std.specs.Prelude.{◌≡◌};
 ghost use Rattle.board.specs.Answers.{decline_number};
 

@@ -1,4 +1,6 @@
 // Worked examples at the edges of the rules.
+#![tactic(auto)]
+
 ghost use Rattle.std.specs.Prelude.{◌≡◌, length};
 ghost use Rattle.boundary.specs.Table.{table, EachAnswersAsListed};
 

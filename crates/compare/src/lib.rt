@@ -1,5 +1,7 @@
 // Two new monitors side by side, over memories of any two kinds: their runs, and what nobody can tell and nobody can
 // disturb in them.
+#![tactic(auto)]
+
 ghost use Rattle.compare.specs.Compares.{Compares};
 
 use board::Call;

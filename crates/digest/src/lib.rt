@@ -1,4 +1,6 @@
 // A digest takes words of 32 bits one by one, and answers eight.
+#![tactic(auto)]
+
 ghost use Rattle.std.specs.Prelude.{◌≡◌, ℕ, ◌+◌, ◌-◌, ◌<◌, ◌≤◌, List, [], ◌∷◌, ◌++◌, length, Ok, Err};
 ghost use Rattle.digest.specs.Fold.{fold_meaning, zeros};
 ghost use Rattle.digest.specs.Meaning.{Meaning, fed, hash, keyed, hmac};

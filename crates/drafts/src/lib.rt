@@ -1,4 +1,6 @@
 // Drafts of enclaves in the hands of a host program.
+#![tactic(auto)]
+
 ghost use Rattle.std.specs.Prelude.{◌≡◌, true, is_ok};
 ghost use Rattle.board.specs.declared.Call.TheVariants.{Open, Add, Finish, Abandon};
 ghost use Rattle.board.specs.Answers.{reply_by, no_words};

@@ -1,4 +1,6 @@
 // Runs files at the edges of what a file of records may be, and prints what comes of each.
+#![tactic(auto)]
+
 mod calls;
 mod cuts;
 mod lengths;

@@ -1,4 +1,6 @@
 // Why a file, a record or a run of them is declined.
+#![tactic(auto)]
+
 ghost use Rattle.std.specs.Prelude.{◌≡◌, ℕ, Result};
 ghost use Rattle.faults.specs.declared.ReadFault.{ReadFault};
 ghost use Rattle.faults.specs.Faults.{fault_number, fault_place, fault_kind, no_room_number, admitted, with_done};

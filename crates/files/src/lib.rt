@@ -1,4 +1,6 @@
 // A file of records read whole: its calls with their places, and how it ends.
+#![tactic(auto)]
+
 ghost use Rattle.std.specs.Prelude.{◌≡◌, ◌+◌, ◌≤◌, ◌++◌, length, IfOk, vec_len, vec_capacity};
 ghost use Rattle.records.specs.Records.{seen};
 ghost use Rattle.files.specs.Files.{heard, filed, filed_from, places_of, calls_of, ended, IsFiled, run_off, lent};

@@ -1,4 +1,6 @@
 // Times the gate over a word memory: loads and stores of the host, and whole lives of an enclave of 32 pages.
+#![tactic(auto)]
+
 use digest::Digest;
 use memory::{Memory, WordMemory};
 use monitor::Monitor;

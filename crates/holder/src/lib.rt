@@ -1,4 +1,6 @@
 // A layer over any memory that holds eight of its lines, and writes them down when another line takes the slot or the holder is ended.
+#![tactic(auto)]
+
 ghost use Rattle.std.specs.Prelude.{◌≡◌, ℕ, ◌≤◌, length, replicate, None};
 ghost use Rattle.memory.specs.Words.{fetched, stored, replaced};
 ghost use Rattle.holder.specs.Lines.{overlaid, held_lines, held_next, Within, Own, Small, Full};

@@ -1,5 +1,7 @@
 // A host program. It builds two tenants step by step, finishes one and abandons the other; the finished one works, is
 // destroyed, and its pages come back as zeros. Each step is printed with the number of its answer.
+#![tactic(auto)]
+
 mod log;
 mod tenants;
 

@@ -1,5 +1,7 @@
 // Two runs in which an enclave keeps one key or another, compared over several piles of memory: others can tell nothing
 // apart. Standard input has the two runs, each after its length in two big-endian bytes.
+#![tactic(auto)]
+
 mod piles;
 
 use anyhow::anyhow;

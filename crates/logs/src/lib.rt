@@ -1,4 +1,6 @@
 // The log of a file of records: its calls made to a monitor, and a line for each.
+#![tactic(auto)]
+
 ghost use Rattle.std.specs.Prelude.{◌≡◌, ◌++◌, map, IfOk, string_bytes, OnOk};
 ghost use Rattle.board.specs.Answers.{reply_of, entry_words};
 ghost use Rattle.logs.specs.Text.{line, answer_lines, end_line};

@@ -1,4 +1,6 @@
 // Times reads and writes: word memory, a scrambler over it, and a line holder over that.
+#![tactic(auto)]
+
 use holder::LineHolder;
 use memory::{Memory, WordMemory};
 use scrambler::Scrambler;

@@ -1,4 +1,6 @@
 // The memory of the board behind one trait: a list of words.
+#![tactic(auto)]
+
 ghost use Rattle.std.specs.Prelude.{◌≡◌, ℕ, ◌≤◌, List, length};
 ghost use Rattle.memory.specs.Words.{fault_number, fetched, stored, replaced};
 

@@ -1,4 +1,6 @@
 // The gate of the board, over any memory and any digest.
+#![tactic(auto)]
+
 ghost use Rattle.std.specs.Prelude.{◌≡◌};
 ghost use Rattle.board.specs.State.{start};
 ghost use Rattle.monitor.specs.Gate.{state_of};

@@ -1,4 +1,6 @@
 // Runs one list of reads and writes through eight piles of memories and layers, and shows that they answer alike.
+#![tactic(auto)]
+
 ghost use Rattle.std.specs.Prelude.{◌≡◌};
 ghost use Rattle.memory.specs.Words.{replaced};
 ghost use Rattle.scrambler.specs.Pads.{padded};

@@ -1,4 +1,6 @@
 // Reads a file of records from standard input, makes its calls to a new board over a memory of zeros, and prints their log.
+#![tactic(auto)]
+
 use faults::LONGEST;
 use logs::run_file;
 use memory::WordMemory;

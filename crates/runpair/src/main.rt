@@ -1,5 +1,7 @@
 // Reads two runs from standard input, each after its length in two big-endian bytes, makes both to new boards, and shows
 // what others than one enclave, whose number is the argument, could tell apart.
+#![tactic(auto)]
+
 mod show;
 
 use anyhow::anyhow;

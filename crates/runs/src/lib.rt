@@ -1,4 +1,6 @@
 // Calls made to a monitor one after another.
+#![tactic(auto)]
+
 ghost use Rattle.std.specs.Prelude.{◌≡◌};
 ghost use Rattle.board.specs.declared.Call.TheVariants.{Attest};
 ghost use Rattle.board.specs.Answers.{reply_by, reply_of, no_words, one_word, entry_words};

@@ -1,4 +1,6 @@
 // A layer over any memory that stores each word under a pad of its place.
+#![tactic(auto)]
+
 ghost use Rattle.std.specs.Prelude.{◌≡◌, ◌≤◌, length, bit_xor};
 ghost use Rattle.memory.specs.Words.{fetched, stored, replaced};
 ghost use Rattle.scrambler.specs.Pads.{pad, padded, meant};

@@ -1,4 +1,6 @@
 // SHA-256 of FIPS 180-4, over words taken as four bytes each, the highest first.
+#![tactic(auto)]
+
 ghost use Rattle.std.specs.Prelude.{◌≡◌, ℕ, ◌<◌, ◌≤◌, length, Ok, Err};
 ghost use Rattle.digest.specs.Numbers.{fault_number};
 ghost use Rattle.sha256.specs.Functions.{start};

@@ -1,5 +1,7 @@
 // Two runs of the gate compared by their calls and answers: which calls were inward calls of an enclave, and what others
 // than that enclave can tell apart. What is meant is defined in specs/.
+#![tactic(auto)]
+
 mod answers;
 mod calls;
 mod judging;

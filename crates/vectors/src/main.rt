@@ -1,5 +1,7 @@
 // The published vectors of SHA-256 and of HMAC over it, and HMAC over a fold with a block of 34 words.
 // Each step says what it asks, what was answered, what was expected, and whether the two are equal.
+#![tactic(auto)]
+
 ghost use Rattle.std.specs.Prelude.{◌≡◌, ℕ, ◌+◌, ◌<◌, ◌≤◌, List, [], ◌∷◌, ◌++◌, length, Ok, Err};
 ghost use Rattle.digest.specs.Meaning.{hmac_of, hmac as hmac-over};
 ghost use Rattle.digest.specs.Numbers.{fault_number};
