@@ -141,9 +141,9 @@ const OUTER: u32 = 0x5c5c5c5c;
 
 // Feeds a word where there is room.
 fn put<D: Digest>(digest: &mut D, word: u32)
-    requires { count digest.old < 65536 }
-    ensures state { state digest.new ≡ meaning.next (state digest.old) (count digest.old) word }
-    ensures count { count digest.new ≡ count digest.old + 1 }
+    requires { D.count digest.old < 65536 }
+    ensures state { D.state digest.new ≡ D.meaning.next (D.state digest.old) (D.count digest.old) word }
+    ensures count { D.count digest.new ≡ D.count digest.old + 1 }
 {
     match digest.feed(word) {
         Ok(()) => {}
@@ -153,9 +153,9 @@ fn put<D: Digest>(digest: &mut D, word: u32)
 
 // Feeds every word of a slice.
 fn put_all<D: Digest>(digest: &mut D, words: &[u32])
-    requires { count digest.old + length words.now ≤ 65536 }
-    ensures state { state digest.new ≡ fed meaning (state digest.old) (count digest.old) words.now }
-    ensures count { count digest.new ≡ count digest.old + length words.now }
+    requires { D.count digest.old + length words.now ≤ 65536 }
+    ensures state { D.state digest.new ≡ fed D.meaning (D.state digest.old) (D.count digest.old) words.now }
+    ensures count { D.count digest.new ≡ D.count digest.old + length words.now }
 {
     for w in words {
         put(digest, *w);
@@ -164,8 +164,8 @@ fn put_all<D: Digest>(digest: &mut D, words: &[u32])
 
 // Clears the digest and feeds one block: the key, filled with zeros, under a mask.
 fn put_key<D: Digest>(digest: &mut D, key: &[u32; 8], mask: u32)
-    ensures state { state digest.new ≡ fed meaning meaning.first 0 (keyed meaning.block key.now mask) }
-    ensures count { count digest.new ≡ meaning.block }
+    ensures state { D.state digest.new ≡ fed D.meaning D.meaning.first 0 (keyed D.meaning.block key.now mask) }
+    ensures count { D.count digest.new ≡ D.meaning.block }
 {
     digest.clear();
     let block = D::BLOCK.words();
@@ -177,9 +177,9 @@ fn put_key<D: Digest>(digest: &mut D, key: &[u32; 8], mask: u32)
 
 // The outer half of HMAC, over what was fed so far; leaves the digest cleared.
 fn close<D: Digest>(digest: &mut D, key: &[u32; 8]) -> [u32; 8]
-    ensures tag { result ≡ hash meaning (keyed meaning.block key.now 0x5c5c5c5c ++ meaning.sum (state digest.old) (count digest.old)) }
-    ensures state { state digest.new ≡ meaning.first }
-    ensures count { count digest.new ≡ 0 }
+    ensures tag { result ≡ hash D.meaning (keyed D.meaning.block key.now 0x5c5c5c5c ++ D.meaning.sum (D.state digest.old) (D.count digest.old)) }
+    ensures state { D.state digest.new ≡ D.meaning.first }
+    ensures count { D.count digest.new ≡ 0 }
 {
     let inner = digest.result();
     put_key(digest, key, OUTER);
@@ -192,9 +192,9 @@ fn close<D: Digest>(digest: &mut D, key: &[u32; 8]) -> [u32; 8]
 // HMAC of the text under the key; leaves the digest cleared, since its state would tell of the key.
 // Declined exactly when a block and the text have more than 65,536 words, and then nothing has changed.
 pub fn hmac<D: Digest>(digest: &mut D, key: &[u32; 8], text: &[u32]) -> Result<[u32; 8], Fault>
-    ensures answer { elim result [ Ok tag ↦ (meaning.block + length text.now ≤ 65536) × (tag ≡ hmac meaning key.now text.now) | Err e ↦ (fault_number e ≡ 13) × (65536 < meaning.block + length text.now) ] }
-    ensures state { elim result [ Ok _ ↦ state digest.new ≡ meaning.first | Err _ ↦ digest.new ≡ digest.old ] }
-    ensures count { elim result [ Ok _ ↦ count digest.new ≡ 0 | Err _ ↦ digest.new ≡ digest.old ] }
+    ensures answer { elim result [ Ok tag ↦ (D.meaning.block + length text.now ≤ 65536) × (tag ≡ hmac D.meaning key.now text.now) | Err e ↦ (fault_number e ≡ 13) × (65536 < D.meaning.block + length text.now) ] }
+    ensures state { elim result [ Ok _ ↦ D.state digest.new ≡ D.meaning.first | Err _ ↦ digest.new ≡ digest.old ] }
+    ensures count { elim result [ Ok _ ↦ D.count digest.new ≡ 0 | Err _ ↦ digest.new ≡ digest.old ] }
 {
     if text.len() > 65536 - D::BLOCK.words() {
         return Err(Fault::Full);
@@ -206,9 +206,9 @@ pub fn hmac<D: Digest>(digest: &mut D, key: &[u32; 8], text: &[u32]) -> Result<[
 
 // The tag of a measurement and one word, under a key: HMAC of the nine words.
 pub fn tag<D: Digest>(digest: &mut D, key: &[u32; 8], measurement: &[u32; 8], word: u32) -> [u32; 8]
-    ensures tag { result ≡ hmac meaning key.now (measurement.now ++ word ∷ []) }
-    ensures state { state digest.new ≡ meaning.first }
-    ensures count { count digest.new ≡ 0 }
+    ensures tag { result ≡ hmac D.meaning key.now (measurement.now ++ word ∷ []) }
+    ensures state { D.state digest.new ≡ D.meaning.first }
+    ensures count { D.count digest.new ≡ 0 }
 {
     put_key(digest, key, INNER);
     put_all(digest, measurement);

@@ -27,7 +27,7 @@ impl Draft {
         count: u8,
         entrypoint: u16,
     ) -> Result<Draft, Decline>
-        ensures does { Does M.Memory meaning (Open enclave first count entrypoint) monitor.old (reply_by draft_words result) monitor.new }
+        ensures does { Does M.Memory D.meaning (Open enclave first count entrypoint) monitor.old (reply_by draft_words result) monitor.new }
         ensures draft { HandsOut enclave result }
     {
         monitor.open(enclave, first, count, entrypoint)?;
@@ -49,7 +49,7 @@ impl Draft {
         frame: u8,
         permission: u8,
     ) -> (Draft, Result<(), Decline>)
-        ensures does { Does M.Memory meaning (Add self.number page frame permission) monitor.old (reply_by no_words result.1) monitor.new }
+        ensures does { Does M.Memory D.meaning (Add self.number page frame permission) monitor.old (reply_by no_words result.1) monitor.new }
         ensures draft { result.0 ≡ self }
     {
         let answer = monitor.add(self.number, page, frame, permission);
@@ -61,9 +61,9 @@ impl Draft {
         self,
         monitor: &mut Monitor<M, D>,
     ) -> Result<(), (Draft, Decline)>
-        ensures does { Does M.Memory meaning (Finish self.number) monitor.old (finish_reply result) monitor.new }
+        ensures does { Does M.Memory D.meaning (Finish self.number) monitor.old (finish_reply result) monitor.new }
         ensures draft { GivesBack self result }
-        ensures cleared { is_ok result ≡ true → (state monitor.new.digest ≡ meaning.first) × (count monitor.new.digest ≡ 0) }
+        ensures cleared { is_ok result ≡ true → (D.state monitor.new.digest ≡ D.meaning.first) × (D.count monitor.new.digest ≡ 0) }
     {
         match monitor.finish(self.number) {
             Ok(()) => {
@@ -76,7 +76,7 @@ impl Draft {
 
     // Abandons the enclave, and takes the draft whatever the answer.
     pub fn abandon<M: Memory, D: Digest>(self, monitor: &mut Monitor<M, D>) -> Result<(), Decline>
-        ensures { Does M.Memory meaning (Abandon self.number) monitor.old (reply_by no_words result) monitor.new }
+        ensures { Does M.Memory D.meaning (Abandon self.number) monitor.old (reply_by no_words result) monitor.new }
     {
         let Draft { number } = self;
         monitor.abandon(number)

@@ -96,7 +96,7 @@ pub fn run_file<M: Memory, D: Digest>(
     monitor: &mut Monitor<M, D>,
     bytes: &[u8],
 ) -> Result<String, AllocError>
-    ensures { Logged M.Memory meaning bytes.now monitor.old result monitor.new }
+    ensures { Logged M.Memory D.meaning bytes.now monitor.old result monitor.new }
 {
     let file = read_file(heap, bytes)?;
     let mut answers = Vec::new(heap);

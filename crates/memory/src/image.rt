@@ -71,7 +71,7 @@ impl<'i, 'a> Memory for ImageMemory<'i, 'a> {
 
     fn size(&self) -> usize
         ensures value { result ≡ length (meant self.now) }
-        ensures value_2 { result ≡ image_size self.now.image.now self.now.area.now }
+        ensures least { result ≡ image_size self.now.image.now self.now.area.now }
     {
         (self.image.len() / 4).min(self.area.len()).min(MOST_WORDS)
     }

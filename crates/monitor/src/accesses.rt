@@ -5,8 +5,8 @@ use memory::Memory;
 
 // The word at this place, or 0 where there is none.
 pub(crate) fn word_at<M: Memory>(memory: &mut M, place: usize) -> u32
-    ensures value { result ≡ slice_index (words memory.old) place }
-    ensures same { words memory.new ≡ words memory.old }
+    ensures value { result ≡ slice_index (M.words memory.old) place }
+    ensures same { M.words memory.new ≡ M.words memory.old }
 {
     match memory.read(place) {
         Ok(word) => word,

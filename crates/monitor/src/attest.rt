@@ -23,9 +23,9 @@ impl<M: Memory, D: Digest> Monitor<M, D> {
     // Writes the measurement of the enclave that runs, and then its tag with the word, to the caller's sixteen words. A
     // declined one leaves them; an accepted one leaves the digest cleared, since its state would tell of the key.
     pub fn attest(&mut self, word: u32, words: &mut [u32; 16]) -> Result<(), Decline>
-        ensures does { Does M.Memory meaning (Attest word) self.old (reply_by (λ _. words.new) result) self.new }
+        ensures does { Does M.Memory D.meaning (Attest word) self.old (reply_by (λ _. words.new) result) self.new }
         ensures kept { is_ok result ≡ false → words.new ≡ words.old }
-        ensures cleared { is_ok result ≡ true → (state self.new.digest ≡ meaning.first) × (count self.new.digest ≡ 0) }
+        ensures cleared { is_ok result ≡ true → (D.state self.new.digest ≡ D.meaning.first) × (D.count self.new.digest ≡ 0) }
     {
         may_leave(self.memory.size(), &self.board)?;
         let measurement = parts::enclaves::enclave(&self.board, self.board.running).measurement;

@@ -17,7 +17,7 @@ use questions::ask::*;
 impl<M: Memory, D: Digest> Monitor<M, D> {
     // The word at an address of the running party.
     pub fn load(&mut self, address: u16) -> Result<u32, Decline>
-        ensures { Does M.Memory meaning (Load address) self.old (reply_by one_word result) self.new }
+        ensures { Does M.Memory D.meaning (Load address) self.old (reply_by one_word result) self.new }
     {
         let place = reach_data(self.memory.size(), &self.board, address, READ)?;
         mark(&mut self.board, address);
@@ -26,7 +26,7 @@ impl<M: Memory, D: Digest> Monitor<M, D> {
 
     // Writes the word at an address of the running party.
     pub fn store(&mut self, address: u16, word: u32) -> Result<(), Decline>
-        ensures { Does M.Memory meaning (Store address word) self.old (reply_by no_words result) self.new }
+        ensures { Does M.Memory D.meaning (Store address word) self.old (reply_by no_words result) self.new }
     {
         let place = reach_data(self.memory.size(), &self.board, address, WRITE)?;
         mark(&mut self.board, address);
@@ -36,7 +36,7 @@ impl<M: Memory, D: Digest> Monitor<M, D> {
 
     // Sets the pc to an address of the running party, and answers the word there.
     pub fn fetch(&mut self, address: u16) -> Result<u32, Decline>
-        ensures { Does M.Memory meaning (Fetch address) self.old (reply_by one_word result) self.new }
+        ensures { Does M.Memory D.meaning (Fetch address) self.old (reply_by one_word result) self.new }
     {
         let place = reach_code(self.memory.size(), &self.board, address)?;
         mark(&mut self.board, address);
@@ -45,14 +45,14 @@ impl<M: Memory, D: Digest> Monitor<M, D> {
     }
 
     pub fn read_register(&mut self, number: u8) -> Result<u32, Decline>
-        ensures { Does M.Memory meaning (ReadRegister number) self.old (reply_by one_word result) self.new }
+        ensures { Does M.Memory D.meaning (ReadRegister number) self.old (reply_by one_word result) self.new }
     {
         may_use_register(self.memory.size(), number)?;
         Ok(register(&self.board, number))
     }
 
     pub fn write_register(&mut self, number: u8, word: u32) -> Result<(), Decline>
-        ensures { Does M.Memory meaning (WriteRegister number word) self.old (reply_by no_words result) self.new }
+        ensures { Does M.Memory D.meaning (WriteRegister number word) self.old (reply_by no_words result) self.new }
     {
         may_use_register(self.memory.size(), number)?;
         set_register(&mut self.board, number, word);
@@ -61,7 +61,7 @@ impl<M: Memory, D: Digest> Monitor<M, D> {
 
     // The entry of a party for a virtual page.
     pub fn read_map(&mut self, party: u8, page: u8) -> Result<Entry, Decline>
-        ensures { Does M.Memory meaning (ReadMap party page) self.old (reply_by entry_words result) self.new }
+        ensures { Does M.Memory D.meaning (ReadMap party page) self.old (reply_by entry_words result) self.new }
     {
         may_read_map(self.memory.size(), &self.board, party, page)
     }
@@ -74,7 +74,7 @@ impl<M: Memory, D: Digest> Monitor<M, D> {
         frame: u8,
         permission: u8,
     ) -> Result<(), Decline>
-        ensures { Does M.Memory meaning (WriteMap party page frame permission) self.old (reply_by no_words result) self.new }
+        ensures { Does M.Memory D.meaning (WriteMap party page frame permission) self.old (reply_by no_words result) self.new }
     {
         may_write_map(
             self.memory.size(),

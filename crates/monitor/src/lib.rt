@@ -26,7 +26,7 @@ pub struct Monitor<M, D> {
 impl<M: Memory, D: Digest> Monitor<M, D> {
     // A new monitor over this memory: the host runs, owns every page, and no enclave is there.
     pub fn new(memory: M, digest: D, key: [u32; 8]) -> Self
-        ensures state { state_of M.Memory result ≡ start (words memory) }
+        ensures state { state_of M.Memory result ≡ start (M.words memory) }
         ensures memory { result.memory ≡ memory }
         ensures digest { result.digest ≡ digest }
         ensures key { result.key ≡ key }

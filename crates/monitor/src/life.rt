@@ -27,7 +27,7 @@ impl<M: Memory, D: Digest> Monitor<M, D> {
         count: u8,
         entrypoint: u16,
     ) -> Result<(), Decline>
-        ensures { Does M.Memory meaning (Open enclave first count entrypoint) self.old (reply_by no_words result) self.new }
+        ensures { Does M.Memory D.meaning (Open enclave first count entrypoint) self.old (reply_by no_words result) self.new }
     {
         let draft = may_open(
             self.memory.size(),
@@ -43,7 +43,7 @@ impl<M: Memory, D: Digest> Monitor<M, D> {
 
     // Gives a page of the host, with its words, to a draft.
     pub fn add(&mut self, enclave: u8, page: u8, frame: u8, permission: u8) -> Result<(), Decline>
-        ensures { Does M.Memory meaning (Add enclave page frame permission) self.old (reply_by no_words result) self.new }
+        ensures { Does M.Memory D.meaning (Add enclave page frame permission) self.old (reply_by no_words result) self.new }
     {
         may_add(
             self.memory.size(),
@@ -69,8 +69,8 @@ impl<M: Memory, D: Digest> Monitor<M, D> {
 
     // Measures a draft and makes it ready; the digest is then cleared.
     pub fn finish(&mut self, enclave: u8) -> Result<(), Decline>
-        ensures does { Does M.Memory meaning (Finish enclave) self.old (reply_by no_words result) self.new }
-        ensures cleared { is_ok result ≡ true → (state self.new.digest ≡ meaning.first) × (count self.new.digest ≡ 0) }
+        ensures does { Does M.Memory D.meaning (Finish enclave) self.old (reply_by no_words result) self.new }
+        ensures cleared { is_ok result ≡ true → (D.state self.new.digest ≡ D.meaning.first) × (D.count self.new.digest ≡ 0) }
     {
         let finished = may_finish(self.memory.size(), &self.board, enclave)?;
         let measurement = measure(&mut self.digest, &mut self.memory, &self.board, enclave);
@@ -88,7 +88,7 @@ impl<M: Memory, D: Digest> Monitor<M, D> {
     // Clears the pages of an enclave, gives them to the host, and makes its record and map as at first.
     fn remove(&mut self, enclave: u8)
         ensures board { self.new.board ≡ forgotten self.old.board enclave }
-        ensures words { words self.new.memory ≡ (if is_whole (words self.old.memory) then cleared_words self.old.board.owners enclave (words self.old.memory) else words self.old.memory) }
+        ensures words { M.words self.new.memory ≡ (if is_whole (M.words self.old.memory) then cleared_words self.old.board.owners enclave (M.words self.old.memory) else M.words self.old.memory) }
         ensures digest { self.new.digest ≡ self.old.digest }
         ensures key { self.new.key ≡ self.old.key }
     {
@@ -98,7 +98,7 @@ impl<M: Memory, D: Digest> Monitor<M, D> {
 
     // Removes a draft.
     pub fn abandon(&mut self, enclave: u8) -> Result<(), Decline>
-        ensures { Does M.Memory meaning (Abandon enclave) self.old (reply_by no_words result) self.new }
+        ensures { Does M.Memory D.meaning (Abandon enclave) self.old (reply_by no_words result) self.new }
     {
         let _ = may_step(
             self.memory.size(),
@@ -112,7 +112,7 @@ impl<M: Memory, D: Digest> Monitor<M, D> {
 
     // Removes a finished enclave.
     pub fn destroy(&mut self, enclave: u8) -> Result<(), Decline>
-        ensures { Does M.Memory meaning (Destroy enclave) self.old (reply_by no_words result) self.new }
+        ensures { Does M.Memory D.meaning (Destroy enclave) self.old (reply_by no_words result) self.new }
     {
         let _ = may_step(
             self.memory.size(),
@@ -126,7 +126,7 @@ impl<M: Memory, D: Digest> Monitor<M, D> {
 
     // Saves the host's context and starts an enclave at its entry address, with registers of 0.
     pub fn enter(&mut self, enclave: u8) -> Result<(), Decline>
-        ensures { Does M.Memory meaning (Enter enclave) self.old (reply_by no_words result) self.new }
+        ensures { Does M.Memory D.meaning (Enter enclave) self.old (reply_by no_words result) self.new }
     {
         let entered = may_step(
             self.memory.size(),
@@ -146,7 +146,7 @@ impl<M: Memory, D: Digest> Monitor<M, D> {
 
     // Saves the host's context and goes on with an enclave where it was paused.
     pub fn resume(&mut self, enclave: u8) -> Result<(), Decline>
-        ensures { Does M.Memory meaning (Resume enclave) self.old (reply_by no_words result) self.new }
+        ensures { Does M.Memory D.meaning (Resume enclave) self.old (reply_by no_words result) self.new }
     {
         let resumed = may_step(
             self.memory.size(),
@@ -178,7 +178,7 @@ impl<M: Memory, D: Digest> Monitor<M, D> {
 
     // Ends the turn of the enclave that runs, and goes on with the host.
     pub fn exit(&mut self) -> Result<(), Decline>
-        ensures { Does M.Memory meaning Exit self.old (reply_by no_words result) self.new }
+        ensures { Does M.Memory D.meaning Exit self.old (reply_by no_words result) self.new }
     {
         may_leave(self.memory.size(), &self.board)?;
         let left = parts::enclaves::enclave(&self.board, self.board.running);
@@ -191,7 +191,7 @@ impl<M: Memory, D: Digest> Monitor<M, D> {
 
     // Saves the context of the enclave that runs, and goes on with the host.
     pub fn pause(&mut self) -> Result<(), Decline>
-        ensures { Does M.Memory meaning Pause self.old (reply_by no_words result) self.new }
+        ensures { Does M.Memory D.meaning Pause self.old (reply_by no_words result) self.new }
     {
         may_leave(self.memory.size(), &self.board)?;
         let left = parts::enclaves::enclave(&self.board, self.board.running);

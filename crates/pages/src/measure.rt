@@ -13,8 +13,8 @@ use parts::range::Range;
 
 // Feeds a word where there is room.
 fn feed<D: Digest>(digest: &mut D, word: u32)
-    requires { count digest.old < 65536 }
-    ensures { Fed meaning (state digest.old) (count digest.old) (word ∷ []) (state digest.new) (count digest.new) }
+    requires { D.count digest.old < 65536 }
+    ensures { Fed D.meaning (D.state digest.old) (D.count digest.old) (word ∷ []) (D.state digest.new) (D.count digest.new) }
 {
     match digest.feed(word) {
         Ok(()) => {}
@@ -24,9 +24,9 @@ fn feed<D: Digest>(digest: &mut D, word: u32)
 
 // Feeds the words of a page.
 fn feed_page<M: Memory, D: Digest>(digest: &mut D, memory: &mut M, frame: u8)
-    requires { count digest.old + 64 ≤ 65536 }
-    ensures fed { Fed meaning (state digest.old) (count digest.old) (page_words (words memory.old) frame) (state digest.new) (count digest.new) }
-    ensures same { words memory.new ≡ words memory.old }
+    requires { D.count digest.old + 64 ≤ 65536 }
+    ensures fed { Fed D.meaning (D.state digest.old) (D.count digest.old) (page_words (M.words memory.old) frame) (D.state digest.new) (D.count digest.new) }
+    ensures same { M.words memory.new ≡ M.words memory.old }
 {
     let start = 64 * frame as usize;
     for offset in 0..64 {
@@ -44,9 +44,9 @@ fn feed_entry<M: Memory, D: Digest>(
     number: u8,
     page: u8,
 )
-    requires { count digest.old + 65 ≤ 65536 }
-    ensures fed { Fed meaning (state digest.old) (count digest.old) (measured_page (record { board = board.entry.now; words = words memory.old }) number page) (state digest.new) (count digest.new) }
-    ensures same { words memory.new ≡ words memory.old }
+    requires { D.count digest.old + 65 ≤ 65536 }
+    ensures fed { Fed D.meaning (D.state digest.old) (D.count digest.old) (measured_page (record { board = board.entry.now; words = M.words memory.old }) number page) (D.state digest.new) (D.count digest.new) }
+    ensures same { M.words memory.new ≡ M.words memory.old }
 {
     let measured = entry(board, number, page.into());
     feed(digest, measured.permission.into());
@@ -63,9 +63,9 @@ fn feed_range<M: Memory, D: Digest>(
     number: u8,
     range: Range,
 )
-    requires { count digest.old + 4160 ≤ 65536 }
-    ensures fed { Fed meaning (state digest.old) (count digest.old) (measured_pages (record { board = board.entry.now; words = words memory.old }) number range.first range.count) (state digest.new) (count digest.new) }
-    ensures same { words memory.new ≡ words memory.old }
+    requires { D.count digest.old + 4160 ≤ 65536 }
+    ensures fed { Fed D.meaning (D.state digest.old) (D.count digest.old) (measured_pages (record { board = board.entry.now; words = M.words memory.old }) number range.first range.count) (D.state digest.new) (D.count digest.new) }
+    ensures same { M.words memory.new ≡ M.words memory.old }
 {
     let first = range.first();
     let end = range.end();
@@ -81,10 +81,10 @@ pub fn measure<M: Memory, D: Digest>(
     board: &Board,
     number: u8,
 ) -> [u32; 8]
-    ensures value { result ≡ hash meaning (measured_words (record { board = board.entry.now; words = words memory.old }) number) }
-    ensures same { words memory.new ≡ words memory.old }
-    ensures state { state digest.new ≡ meaning.first }
-    ensures count { count digest.new ≡ 0 }
+    ensures value { result ≡ hash D.meaning (measured_words (record { board = board.entry.now; words = M.words memory.old }) number) }
+    ensures same { M.words memory.new ≡ M.words memory.old }
+    ensures state { D.state digest.new ≡ D.meaning.first }
+    ensures count { D.count digest.new ≡ 0 }
 {
     let measured = enclave(board, number);
     digest.clear();

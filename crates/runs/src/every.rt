@@ -16,7 +16,7 @@ pub fn run<M: Memory, D: Digest>(
     calls: &[Call],
     answers: &mut Vec<Answer>,
 ) -> Result<(), AllocError>
-    ensures { AddsRun M.Memory meaning calls.now monitor.old answers.old.items result monitor.new answers.new.items }
+    ensures { AddsRun M.Memory D.meaning calls.now monitor.old answers.old.items result monitor.new answers.new.items }
 {
     answers.reserve(calls.len())?;
     for made in calls {

@@ -44,7 +44,7 @@ fn mapped(res: Result<Entry, Decline>) -> Answer
 
 // Attest, with the sixteen words in the answer.
 fn attested<M: Memory, D: Digest>(monitor: &mut Monitor<M, D>, word: u32) -> Answer
-    ensures { Does M.Memory meaning (Attest word) monitor.old (reply_of result) monitor.new }
+    ensures { Does M.Memory D.meaning (Attest word) monitor.old (reply_of result) monitor.new }
 {
     let mut words = [0; 16];
     match monitor.attest(word, &mut words) {
@@ -55,7 +55,7 @@ fn attested<M: Memory, D: Digest>(monitor: &mut Monitor<M, D>, word: u32) -> Ans
 
 // One call, whichever it is, attest too.
 pub fn make<M: Memory, D: Digest>(monitor: &mut Monitor<M, D>, call: Call) -> Answer
-    ensures { Does M.Memory meaning call monitor.old (reply_of result) monitor.new }
+    ensures { Does M.Memory D.meaning call monitor.old (reply_of result) monitor.new }
 {
     match call {
         Call::Open {
@@ -95,7 +95,7 @@ pub fn make<M: Memory, D: Digest>(monitor: &mut Monitor<M, D>, call: Call) -> An
 
 // One call, whichever it is. The gate does not have attest yet.
 pub fn call<M: Memory, D: Digest>(monitor: &mut Monitor<M, D>, call: Call) -> Option<Answer>
-    ensures { Answered M.Memory meaning call monitor.old result monitor.new }
+    ensures { Answered M.Memory D.meaning call monitor.old result monitor.new }
 {
     if let Call::Attest { .. } = call {
         return None;
@@ -110,7 +110,7 @@ pub fn run<M: Memory, D: Digest>(
     calls: &[Call],
     answers: &mut Vec<Answer>,
 ) -> Result<(), AllocError>
-    ensures { AddsRun M.Memory meaning (heeded calls.now) monitor.old answers.old.items result monitor.new answers.new.items }
+    ensures { AddsRun M.Memory D.meaning (heeded calls.now) monitor.old answers.old.items result monitor.new answers.new.items }
 {
     answers.reserve(calls.len())?;
     for made in calls {

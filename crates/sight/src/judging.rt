@@ -34,7 +34,7 @@ pub fn judge_runs<D: Digest>(
 ) -> Result<Verdict, AllocError>
     ensures other { IfOk result (λ v. v.other ≡ first_place_apart same_or_inward left.now v.left.items right.now v.right.items) }
     ensures told { IfOk result (λ v. v.told ≡ first_place_apart same_told left_answers.now v.left.items right_answers.now v.right.items) }
-    ensures judged { IfOk result (Judged meaning enclave left.now (map reply_of left_answers.now) right.now (map reply_of right_answers.now)) }
+    ensures judged { IfOk result (Judged D.meaning enclave left.now (map reply_of left_answers.now) right.now (map reply_of right_answers.now)) }
 {
     let left_marks = inward_marks::<D>(heap, enclave, left, left_answers)?;
     let right_marks = inward_marks::<D>(heap, enclave, right, right_answers)?;

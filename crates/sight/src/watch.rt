@@ -95,7 +95,7 @@ pub fn inward_marks<D: Digest>(
     answers: &[Answer],
 ) -> Result<Vec<bool>, AllocError>
     ensures marks { IfOk result (λ v. v.items ≡ marks_from enclave at_start calls.now (map reply_of answers.now)) }
-    ensures inward { IfOk result (λ v. TellsInwardCalls meaning enclave calls.now (map reply_of answers.now) v.items) }
+    ensures inward { IfOk result (λ v. TellsInwardCalls D.meaning enclave calls.now (map reply_of answers.now) v.items) }
 {
     let mut marks = Vec::new(heap);
     let mut watch = Watch {

@@ -4,7 +4,7 @@ use Rattle.compare.proofs.compare.Goals as goal
 pub returns : goal.returns
 returns g c =
     record {
-      left_ran = c.run-new.ensures;
-      right_ran = c.run-new-2.ensures;
-      apart = kept_apart g.D.Digest.meaning c.args.key (g.M.Memory.words c.args.left) (g.N.Memory.words c.args.right) c.args.left-calls.now c.args.right-calls.now;
+      left_ran = c.run_new.ensures;
+      right_ran = c.run_new-2.ensures;
+      apart = kept_apart g.D.Digest.meaning c.args.key (g.M.Memory.words c.args.left) (g.N.Memory.words c.args.right) c.args.left_calls.now c.args.right_calls.now;
     }

@@ -9,8 +9,8 @@ returns g c =
     let key = c.args.key.now in
     let eight : length key ≡ 8 = search rules in
     let room : length key ≤ m.block = omega (arith, g.met.D.Digest.range.0, g.met.D.Digest.block) in
-    let outer = after_keyed m _ _ key 0x5c5c5c5c room c.put-key.ensures.state c.put-key.ensures.count in
-    let whole = after_more m _ _ c.result-inner.result outer c.put-all.ensures.state c.put-all.ensures.count in
+    let outer = after_keyed m _ _ key 0x5c5c5c5c room c.put_key.ensures.state c.put_key.ensures.count in
+    let whole = after_more m _ _ c.result-inner.result outer c.put_all.ensures.state c.put_all.ensures.count in
     record {
       tag = c.result-tag.ensures ∙ after_sum m whole ∙ ap (λ (xs : List ℕ). hash m (keyed m.block key 0x5c5c5c5c ++ xs)) c.result-inner.ensures;
       state = c.clear.ensures.state;

@@ -10,8 +10,8 @@ returns g c =
     let eight : length key ≡ 8 = search rules in
     let room : length key ≤ m.block = omega (arith, g.met.D.Digest.range.0, g.met.D.Digest.block) in
     let start = keyed m.block key 0x36363636 in
-    let inner = after_keyed m _ _ key 0x36363636 room c.put-key.ensures.state c.put-key.ensures.count in
-    let more = after_more m _ _ c.args.measurement.now inner c.put-all.ensures.state c.put-all.ensures.count in
+    let inner = after_keyed m _ _ key 0x36363636 room c.put_key.ensures.state c.put_key.ensures.count in
+    let more = after_more m _ _ c.args.measurement.now inner c.put_all.ensures.state c.put_all.ensures.count in
     let whole = after_more m _ _ (c.args.word ∷ []) more c.put.ensures.state c.put.ensures.count in
     let summed = after_sum m whole ∙ ap (hash m) (append_assoc start c.args.measurement.now (c.args.word ∷ [])) in
     record {

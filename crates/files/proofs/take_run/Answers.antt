@@ -12,4 +12,4 @@ returns c =
     let bs = c.args.bytes.now in
     let two : 2 ≤ length bs = search rules in
     let whole : length (drop 2 bs) ≤ length bs - 2 = simp length-drop (omega arith) in
-    taken bs (take (length bs - 2) (drop 2 bs)) c.split-at.result.0.now c.split-at.result.1.now two (take_all _ _ whole) c.if-length-rest.false c.split-at.ensures.front c.split-at.ensures.back
+    taken bs (take (length bs - 2) (drop 2 bs)) c.split_at.result.0.now c.split_at.result.1.now two (take_all _ _ whole) c.if-length-rest.false c.split_at.ensures.front c.split_at.ensures.back

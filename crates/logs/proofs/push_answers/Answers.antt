@@ -4,7 +4,7 @@ use Rattle.logs.proofs.push_answers.Goals as goal
 
 pub loop-i-preserved : goal.loop-i-preserved
 loop-i-preserved c =
-    lines_more c.args.places.now c.args.calls.now c.args.answers.now c.loop-i.i (string_bytes c.loop-i.text) _ c.loop-i.invariant _ _ c.kind.result (string_bytes c.push-answer.new.text) (omega arith) (omega arith) (omega arith) c.kind.ensures c.in-ok-push-answer.ensures
+    lines_more c.args.places.now c.args.calls.now c.args.answers.now c.loop-i.i (string_bytes c.loop-i.text) _ c.loop-i.invariant _ _ c.kind.result (string_bytes c.push_answer.new.text) (omega arith) (omega arith) (omega arith) c.kind.ensures c.in_ok-push_answer.ensures
 
 pub returns-else-i-answers : goal.returns-else-i-answers
 returns-else-i-answers c = no_answers c.args.places.now c.args.calls.now c.args.answers.now c.loop-i.i _ _ c.loop-i.invariant (omega arith)

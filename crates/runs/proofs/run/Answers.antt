@@ -14,15 +14,15 @@ loop-made-preserved g c =
     let a = c.in-Some.answer in
     let did = c.in-Some.ensures in (
       xs ++ (a ∷ []),
-      c.push-reserved.ensures.items ∙ ap (λ (ys : List Answer). ys ++ (a ∷ [])) inv.1 ∙ append_assoc (vec_items c.reserve.new.self) xs (a ∷ []),
+      c.push_reserved.ensures.items ∙ ap (λ (ys : List Answer). ys ++ (a ∷ [])) inv.1 ∙ append_assoc (vec_items c.reserve.new.self) xs (a ∷ []),
       one_more g.M.Memory g.D.Digest.meaning c.args.calls.now c.args.monitor.now xs c.loop-made.made-index c.loop-made.monitor inv.2 _ c.loop-made-test.true c.call.new.monitor a did.0 did.1,
-      omega (arith, inv.3, c.push-reserved.ensures.len, c.push-reserved.ensures.capacity),
+      omega (arith, inv.3, c.push_reserved.ensures.len, c.push_reserved.ensures.capacity),
     )
 
-pub returns-in-default : goal.returns-in-default
-returns-in-default g c =
+pub returns-in_default : goal.returns-in_default
+returns-in_default g c =
     let inv = c.loop-made.invariant in
-    let did = c.in-default.ensures in
+    let did = c.in_default.ensures in
     let P : _ → Type 0 = λ k. Ran g.M.Memory g.D.Digest.meaning (heeded c.args.calls.now) c.args.monitor.now inv.0 k in (
       inv.0,
       inv.1 ∙ ap (λ (ys : List Answer). ys ++ inv.0) c.reserve.ensures.items,

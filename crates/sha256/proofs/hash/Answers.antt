@@ -6,7 +6,7 @@ use Rattle.sha256.proofs.hash.Goals as goal
 
 pub loop-word-preserved : goal.loop-word-preserved
 loop-word-preserved c =
-    let fed_one = c.in-ok-feed.ensures in (
+    let fed_one = c.in_ok-feed.ensures in (
       omega (arith, fed_one.count.1),
       fed_more sha_meaning _ _ _ _ c.loop-word.word-index c.args.words.now c.loop-word-test.true fed_one.state fed_one.count.1 ∙ c.loop-word.invariant.1,
     )
@@ -18,5 +18,5 @@ returns c =
     let state = sym (fed_all sha_meaning _ _ c.loop-word.word-index words c.loop-word-test.false) ∙ c.loop-word.invariant.1 in
     record { answer = (omega (arith, c.loop-word.digest.ok), c.result.ensures ∙ ap₂ closed state count ∙ streams words); streams = streams }
 
-pub returns-in-err-feed : goal.returns-in-err-feed
-returns-in-err-feed c = record { answer = search rules; streams = streams }
+pub returns-in_err-feed : goal.returns-in_err-feed
+returns-in_err-feed c = record { answer = search rules; streams = streams }

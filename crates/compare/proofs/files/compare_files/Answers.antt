@@ -5,7 +5,7 @@ use Rattle.compare.proofs.files.compare_files.Goals as goal
 pub returns : goal.returns
 returns g c =
     record {
-      left_ran = c.run-file.ensures.ran;
-      right_ran = c.run-file-2.ensures.ran;
-      apart = kept_apart g.D.Digest.meaning c.args.key (g.M.Memory.words c.args.left) (g.N.Memory.words c.args.right) (calls_in c.args.left-bytes.now) (calls_in c.args.right-bytes.now);
+      left_ran = c.run_file.ensures.ran;
+      right_ran = c.run_file-2.ensures.ran;
+      apart = kept_apart g.D.Digest.meaning c.args.key (g.M.Memory.words c.args.left) (g.N.Memory.words c.args.right) (calls_in c.args.left_bytes.now) (calls_in c.args.right_bytes.now);
     }

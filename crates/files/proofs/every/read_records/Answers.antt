@@ -7,35 +7,35 @@ use Rattle.files.proofs.AllShorter.{fewer_left, none_left, was_some, was_none, w
 use Rattle.files.proofs.every.read_records.Goals as goal
 
 -- what is read, where a record follows
-read_some : (c : goal.After-push-reserved-in-loop-rest) → parse (length c.args.bytes.now - length c.loop-rest.rest.now) c.loop-rest.rest.now ≡ Ok (Some (c.in-Some.call, c.in-Some.next.now))
+read_some : (c : goal.After-push_reserved-in_loop-rest) → parse (length c.args.bytes.now - length c.loop-rest.rest.now) c.loop-rest.rest.now ≡ Ok (Some (c.in-Some.call, c.in-Some.next.now))
 read_some c =
     sym c.read.ensures.value
-    ∙ was_some c.read.result c.loop-rest.done c.in-Some.call c.in-Some.next (sym c.after.ensures ∙ c.in-ok-call.was ∙ ap (λ o. Ok o) c.in-Some.is)
+    ∙ was_some c.read.result c.loop-rest.done c.in-Some.call c.in-Some.next (sym c.after.ensures ∙ c.in_ok-call.was ∙ ap (λ o. Ok o) c.in-Some.is)
 
 -- the reader's fault turned into the run's
 turned_into : (r : Result ℕ RunFault) (p : ReadFault × ℕ) → IsErrAnd r (λ f. f ≡ record { fault = p.0; done = p.1 }) → r ≡ Err (record { fault = p.0; done = p.1 })
 turned_into (Ok n) p by = absurd by
 turned_into (Err f) p by = ap (λ (x : RunFault). Err x) by
 
-pub returns-in-err-call : goal.returns-in-err-call
-returns-in-err-call c =
+pub returns-in_err-call : goal.returns-in_err-call
+returns-in_err-call c =
     let bs = c.loop-rest.rest.now in
     let inv = c.loop-rest.invariant in
-    let fault = was_fault c.read.result c.loop-rest.done c.in-err-call.field-0.0 (sym c.after.ensures ∙ c.in-err-call.was) in
+    let fault = was_fault c.read.result c.loop-rest.done c.in_err-call.field-0.0 (sym c.after.ensures ∙ c.in_err-call.was) in
     let some : 0 < length bs = search rules in
     let end = stops (length c.args.bytes.now) c.loop-rest.done bs inv.0 some _ (sym c.read.ensures.value ∙ fault.0) in
-    let told = turned_into c.from-residual.result c.in-err-call.field-0.0 c.from-residual.ensures.1 in
+    let told = turned_into c.from_residual.result c.in_err-call.field-0.0 c.from_residual.ensures.1 in
     record {
       places = items_end (λ (p : Placed). p.place) _ _ _ inv.3 _ end;
       calls = items_end (λ (p : Placed). p.call) _ _ _ inv.4 _ end;
-      end = told ∙ ap (λ (n : ℕ). Err (record { fault = c.in-err-call.field-0.0.0; done = n })) fault.1 ∙ count_end c.loop-rest.done _ _ inv.5 _ end;
+      end = told ∙ ap (λ (n : ℕ). Err (record { fault = c.in_err-call.field-0.0.0; done = n })) fault.1 ∙ count_end c.loop-rest.done _ _ inv.5 _ end;
     }
 
-pub returns-in-default : goal.returns-in-default
-returns-in-default c =
+pub returns-in_default : goal.returns-in_default
+returns-in_default c =
     let bs = c.loop-rest.rest.now in
     let inv = c.loop-rest.invariant in
-    let none = was_none c.read.result c.loop-rest.done (sym c.after.ensures ∙ c.in-ok-call.was ∙ ap (λ o. Ok o) c.in-default.is) in
+    let none = was_none c.read.result c.loop-rest.done (sym c.after.ensures ∙ c.in_ok-call.was ∙ ap (λ o. Ok o) c.in_default.is) in
     let some : 0 < length bs = search rules in
     let end = stops (length c.args.bytes.now) c.loop-rest.done bs inv.0 some _ (sym c.read.ensures.value ∙ none) in
     record {
@@ -55,10 +55,10 @@ loop-rest-preserved c =
     let some : 0 < length bs = omega (arith, shorter) in
     let more = one_more (length c.args.bytes.now) c.loop-rest.done bs inv.0 some c.in-Some.call c.in-Some.next.now (read_some c) in (
       omega (arith, shorter, inv.0),
-      omega (arith, shorter, inv.1, c.push-reserved.ensures.len, c.push-reserved.ensures.capacity),
-      omega (arith, shorter, inv.2, c.push-reserved-in-loop-rest.ensures.len, c.push-reserved-in-loop-rest.ensures.capacity),
-      items_more (λ (p : Placed). p.place) _ _ _ inv.3 (vec_items c.push-reserved.new.self) _ _ more c.push-reserved.ensures.items,
-      items_more (λ (p : Placed). p.call) _ _ _ inv.4 (vec_items c.push-reserved-in-loop-rest.new.self) _ _ more c.push-reserved-in-loop-rest.ensures.items,
+      omega (arith, shorter, inv.1, c.push_reserved.ensures.len, c.push_reserved.ensures.capacity),
+      omega (arith, shorter, inv.2, c.push_reserved-in_loop-rest.ensures.len, c.push_reserved-in_loop-rest.ensures.capacity),
+      items_more (λ (p : Placed). p.place) _ _ _ inv.3 (vec_items c.push_reserved.new.self) _ _ more c.push_reserved.ensures.items,
+      items_more (λ (p : Placed). p.call) _ _ _ inv.4 (vec_items c.push_reserved-in_loop-rest.new.self) _ _ more c.push_reserved-in_loop-rest.ensures.items,
       count_more c.loop-rest.done _ _ inv.5 _ _ more,
     )
 

@@ -6,8 +6,8 @@ use Rattle.holder.proofs.Held.{Clean, all_clean, clean_none, down_clean, down_me
 use Rattle.holder.proofs.LineHolder.end.Goals as goal
 use Rattle.holder.proofs.LineHolder.end.Goals.{in-Some, in-default}
 
-pub write-down-requires : goal.write-down-requires
-write-down-requires g c = c.args.self.small _ _ c.in-Some.is
+pub write_down-requires : goal.write_down-requires
+write_down-requires g c = c.args.self.small _ _ c.in-Some.is
 
 pub loop-slot-preserved : goal.loop-slot-preserved
 loop-slot-preserved g c =
@@ -17,7 +17,7 @@ loop-slot-preserved g c =
     elim c.match-found.branch [
       | in-Some w ↦
           let line = w.in-Some.line in
-          let e : g.M.Memory.words c.match-found.below ≡ written_down (Some line) ws = ap g.M.Memory.words w.below-is ∙ w.write-down.ensures in
+          let e : g.M.Memory.words c.match-found.below ≡ written_down (Some line) ws = ap g.M.Memory.words w.below-is ∙ w.write_down.ensures in
           let own = c.args.self.own _ _ w.in-Some.is in (
             ap (overlaid lines) e ∙ down_means lines i line w.in-Some.is ws own ∙ c.loop-slot.invariant.0,
             λ s l. subst (λ x. Clean lines x s) (sym e)
@@ -31,7 +31,7 @@ loop-slot-preserved g c =
             ap (overlaid lines) e ∙ c.loop-slot.invariant.0,
             λ s l. subst (λ x. Clean lines x s) (sym e)
                 (elim (cases_eq s i) [
-                  | inl q ↦ subst (Clean lines ws) (sym q) (clean_none lines ws i w.in-default.is)
+                  | inl q ↦ subst (Clean lines ws) (sym q) (clean_none lines ws i w.in_default.is)
                   | inr ne ↦ c.loop-slot.invariant.1 s (let k : s < i = omega arith in k)
                 ]),
           )

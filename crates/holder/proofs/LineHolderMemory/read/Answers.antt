@@ -23,8 +23,8 @@ returns-then-place-size g c =
       below = sym (below_out lines ws p out);
     }
 
-pub invariant-of-self : goal.invariant-of-self
-invariant-of-self g c = let sound = c.hold-held.ensures.sound in (sound.own, (sound.small, (sound.full, tt)))
+pub invariant_of-self : goal.invariant_of-self
+invariant_of-self g c = let sound = c.hold-held.ensures.sound in (sound.own, (sound.small, (sound.full, tt)))
 
 pub returns : goal.returns
 returns g c =
@@ -44,8 +44,8 @@ returns g c =
       below = new.below;
     }
 
-pub invariant-of-self-else-not-held : goal.invariant-of-self-else-not-held
-invariant-of-self-else-not-held g c = let sound = c.hold-held.ensures.sound in (sound.own, (sound.small, (sound.full, tt)))
+pub invariant_of-self-else-not-held : goal.invariant_of-self-else-not-held
+invariant_of-self-else-not-held g c = let sound = c.hold-held.ensures.sound in (sound.own, (sound.small, (sound.full, tt)))
 
 pub returns-then-not-held : goal.returns-then-not-held
 returns-then-not-held g c =

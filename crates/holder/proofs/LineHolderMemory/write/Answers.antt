@@ -26,8 +26,8 @@ returns-then-place-size g c =
       below = sym (below_written_out lines ws p out c.args.word);
     }
 
-pub invariant-of-self-2 : goal.invariant-of-self-2
-invariant-of-self-2 g c =
+pub invariant_of-self-2 : goal.invariant_of-self-2
+invariant_of-self-2 g c =
     let lines = c.hold-held.new.slots.lines in
     let p = c.args.place in
     let some = is_some (get_or lines (slot_of p) None) (line_of p) (sym c.hold-held.ensures.held ∙ c.if-not-held.false) in
@@ -66,8 +66,8 @@ returns g c =
       below = new.below ∙ below_written_held s.slots.lines ws p w next;
     }
 
-pub invariant-of-self : goal.invariant-of-self
-invariant-of-self g c = let sound = c.hold-held.ensures.sound in (sound.own, (sound.small, (sound.full, tt)))
+pub invariant_of-self : goal.invariant_of-self
+invariant_of-self g c = let sound = c.hold-held.ensures.sound in (sound.own, (sound.small, (sound.full, tt)))
 
 pub returns-then-not-held : goal.returns-then-not-held
 returns-then-not-held g c =

@@ -27,7 +27,7 @@ loop-k-preserved g c =
                 (λ j h. let ne : j ≢ k = omega arith in get_or-set_other old k j word 0 ne ∙ inv.2 j h)
                 (get_or-set_same old k word 0 l ∙ read) j h,
           )
-      | in-default w ↦ absurd (omega (arith, (outside mid (a + k) (get_or mid (a + k) 0) w.in-default.field-0 w.in-default.ensures.answer).0))
+      | in-default w ↦ absurd (omega (arith, (outside mid (a + k) (get_or mid (a + k) 0) w.in_default.field-0 w.in_default.ensures.answer).0))
     ]
 
 pub returns : goal.returns

@@ -7,7 +7,7 @@ returns c =
     let old = string_bytes c.args.text.now in
     let numbers = numbers_text c.args.place c.args.kind c.args.number in
     let words = words_text c.args.words.now in
-    c.in-ok-push-str.ensures.bytes
-    ∙ ap (λ (t : List ℕ). t ++ (10 ∷ [])) (c.in-ok-push-words.ensures ∙ ap (λ (t : List ℕ). t ++ words) c.in-ok-push-numbers.ensures)
+    c.in_ok-push_str.ensures.bytes
+    ∙ ap (λ (t : List ℕ). t ++ (10 ∷ [])) (c.in_ok-push_words.ensures ∙ ap (λ (t : List ℕ). t ++ words) c.in_ok-push_numbers.ensures)
     ∙ append_assoc (old ++ numbers) words (10 ∷ [])
     ∙ append_assoc old numbers (words ++ (10 ∷ []))

@@ -8,6 +8,6 @@ loop-k-preserved c =
     let image = c.args.image.now in
     let from = c.args.from in
     let at = from + c.loop-k.k in
-    ap (λ v. set c.loop-k.area at v) c.word-at.ensures
+    ap (λ v. set c.loop-k.area at v) c.word_at.ensures
     ∙ ap (λ ws. set ws at (image_word image at)) c.loop-k.invariant
     ∙ sym (filled_more c.args.area.now from (λ k. image_word image (from + k)) c.loop-k.k)

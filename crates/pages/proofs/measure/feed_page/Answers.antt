@@ -21,7 +21,7 @@ loop-offset-preserved g c =
             turn_word d.meaning ws held (64 * c.args.frame) c.loop-offset.offset c.loop-offset.invariant.1 c.loop-offset.invariant.0 w.in-Ok.word w.in-Ok.ensures.answer (subst P (sym w.digest-is) w.feed.ensures)
         | in-default w ↦
             let P : _ → Type 0 = λ x. Fed d.meaning (d.state c.args.digest.now) (d.count c.args.digest.now) (take (c.loop-offset.offset + 1) (drop (64 * c.args.frame) ws)) (d.state x) (d.count x) in
-            subst P (sym w.digest-is) (turn_none d.meaning ws held (64 * c.args.frame) c.loop-offset.offset c.loop-offset.invariant.1 c.loop-offset.invariant.0 w.in-default.field-0 w.in-default.ensures.answer)
+            subst P (sym w.digest-is) (turn_none d.meaning ws held (64 * c.args.frame) c.loop-offset.offset c.loop-offset.invariant.1 c.loop-offset.invariant.0 w.in_default.field-0 w.in_default.ensures.answer)
       ],
       c.read.ensures.keeps ∙ c.loop-offset.invariant.1,
     )

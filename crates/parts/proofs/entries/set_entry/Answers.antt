@@ -9,7 +9,7 @@ pub returns-then-party-maps : goal.returns-then-party-maps
 returns-then-party-maps c =
     let h : c.args.party < length c.args.board.now.maps = omega arith in
     ap (with_map c.args.board.now c.args.party)
-    (c.put-entry.ensures ∙ ap (λ (m : List Entry). set m c.args.page c.args.entry) (get_or_default c.args.board.now.maps c.args.party [] blank h))
+    (c.put_entry.ensures ∙ ap (λ (m : List Entry). set m c.args.page c.args.entry) (get_or_default c.args.board.now.maps c.args.party [] blank h))
 
 pub returns-else-party-maps : goal.returns-else-party-maps
 returns-else-party-maps c =

@@ -8,9 +8,9 @@ pub returns : goal.returns
 returns c =
     let place = c.args.place in
     let bs = c.args.bytes.now in
-    let value = c.take-apart.ensures in
+    let value = c.take_apart.ensures in
     record {
       value = value;
-      back = subst (Back bs) (sym value) (back place bs (λ j. omega (arith, c.type-inv.bytes j)));
+      back = subst (Back bs) (sym value) (back place bs (λ j. omega (arith, c.type_inv.bytes j)));
       again = λ k t fits is. value ∙ ap (parse place) is ∙ again place k t fits;
     }

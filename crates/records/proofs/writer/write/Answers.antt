@@ -5,7 +5,7 @@ use Rattle.records.proofs.writer.write.Goals as goal
 
 pub returns : goal.returns
 returns c =
-    let put = c.put-call.ensures in
+    let put = c.put_call.ensures in
     record {
       after = put.after;
       count = put.count;

@@ -6,13 +6,13 @@ use Rattle.scrambler.specs.Pads.{pad, padded}
 use Rattle.memory.proofs.Places.{length_placed, fetched_placed, fetched_declined}
 use Rattle.scrambler.proofs.ScramblerMemory.read.Goals as goal
 
-pub returns-in-err-word : goal.returns-in-err-word
-returns-in-err-word g c =
-    let h = c.in-err-word.ensures in
+pub returns-in_err-word : goal.returns-in_err-word
+returns-in_err-word g c =
+    let h = c.in_err-word.ensures in
     let key = c.args.self.now.key in
     let ws = g.M.Memory.words c.args.self.now.below in
     let mk : g.row.M.Denot → Scrambler g.row.M.Denot = λ b. record { below = b; key = key } in
-    let p = err_from_is_err_and c.from-residual.result c.from-residual.ensures.1 in
+    let p = err_from_is_err_and c.from_residual.result c.from_residual.ensures.1 in
     record {
       answer = p.1 ∙ ap Err p.2 ∙ fetched_declined (λ q v. bit_xor v (pad key q)) ws c.args.place _ h.answer;
       keeps = ap (padded key) h.keeps;
@@ -23,12 +23,12 @@ returns-in-err-word g c =
 
 pub returns : goal.returns
 returns g c =
-    let h = c.in-ok-word.ensures in
+    let h = c.in_ok-word.ensures in
     let key = c.args.self.now.key in
     let ws = g.M.Memory.words c.args.self.now.below in
     let mk : g.row.M.Denot → Scrambler g.row.M.Denot = λ b. record { below = b; key = key } in
     record {
-      answer = ap (λ p. Ok (bit_xor c.in-ok-word.word p)) c.pad-of.ensures ∙ fetched_placed (λ q v. bit_xor v (pad key q)) ws c.args.place _ h.answer;
+      answer = ap (λ p. Ok (bit_xor c.in_ok-word.word p)) c.pad_of.ensures ∙ fetched_placed (λ q v. bit_xor v (pad key q)) ws c.args.place _ h.answer;
       keeps = ap (padded key) h.keeps;
       declined = λ l. ap mk (h.declined (let le : length ws ≤ c.args.place = omega (arith, length_placed (λ q v. bit_xor v (pad key q)) ws) in le));
       below = h.keeps;

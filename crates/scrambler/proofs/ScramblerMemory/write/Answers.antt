@@ -13,7 +13,7 @@ returns g c =
     let place = c.args.place in
     let ws = g.M.Memory.words c.args.self.now.below in
     let mk : g.row.M.Denot → Scrambler g.row.M.Denot = λ b. record { below = b; key = key } in
-    let down = h.after ∙ ap (λ p. set ws place (bit_xor c.args.word p)) c.pad-of.ensures in
+    let down = h.after ∙ ap (λ p. set ws place (bit_xor c.args.word p)) c.pad_of.ensures in
     record {
       answer = h.answer ∙ sym (stored_placed (λ q v. bit_xor v (pad key q)) ws place);
       after = ap (padded key) down ∙ padded_set key ws place c.args.word;

@@ -5,5 +5,5 @@ use Rattle.sight.proofs.places.first_apart.Given as goal
 
 abbrev pub invariant-loop-i : goal.invariant-loop-i
 invariant-loop-i g l =
-    apart_from g.T.Place.alike l.i (zip (drop l.i l.left) (drop l.i l.left-marks)) (zip (drop l.i l.right) (drop l.i l.right-marks))
-    ≡ first_place_apart g.T.Place.alike l.left l.left-marks l.right l.right-marks
+    apart_from g.T.Place.alike l.i (zip (drop l.i l.left) (drop l.i l.left_marks)) (zip (drop l.i l.right) (drop l.i l.right_marks))
+    ≡ first_place_apart g.T.Place.alike l.left l.left_marks l.right l.right_marks

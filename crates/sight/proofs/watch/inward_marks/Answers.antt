@@ -9,7 +9,7 @@ use Rattle.sight.proofs.watch.inward_marks.Goals as goal
 
 pub loop-i-preserved : goal.loop-i-preserved
 loop-i-preserved g c =
-    one_more c.args.enclave c.loop-i.watch c.args.calls.now c.args.answers.now c.loop-i.i (vec_items c.loop-i.marks) _ c.loop-i.invariant _ _ c.is-inward.result (vec_items c.push.new.self) c.next-watch.result (omega arith) (omega arith) c.is-inward.ensures c.in-ok-push.ensures.items c.next-watch.ensures
+    one_more c.args.enclave c.loop-i.watch c.args.calls.now c.args.answers.now c.loop-i.i (vec_items c.loop-i.marks) _ c.loop-i.invariant _ _ c.is_inward.result (vec_items c.push.new.self) c.next-watch.result (omega arith) (omega arith) c.is_inward.ensures c.in_ok-push.ensures.items c.next-watch.ensures
 
 pub returns : goal.returns
 returns g c =

@@ -17,4 +17,4 @@ returns-else-self-place c =
     let image = s.image.now in
     let area = s.area.now in
     let l : c.args.place < image_size image area = omega arith in
-    record { answer = ap Ok c.word-at.ensures ∙ fetched_here image area s.copied c.args.place l c.if-self-place.false; keeps = refl; declined = λ _. refl; still = refl }
+    record { answer = ap Ok c.word_at.ensures ∙ fetched_here image area s.copied c.args.place l c.if-self-place.false; keeps = refl; declined = λ _. refl; still = refl }

@@ -7,4 +7,4 @@ pub returns : goal.returns
 returns c =
     let s = c.args.self.now in
     let least : c.min-2.result ≡ image_size s.image.now s.area.now = omega arith in
-    (least ∙ sym (length_pictured s.image.now s.area.now s.copied), least)
+    record { value = least ∙ sym (length_pictured s.image.now s.area.now s.copied); least = least }

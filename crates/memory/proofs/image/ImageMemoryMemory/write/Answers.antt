@@ -44,10 +44,10 @@ ready c =
     elim c.if-not-self-page.branch [
       | then-not-self-page w ↦
           let n = w.min.result in
-          let e : n ≡ min (image_size image area - p / 64 * 64) 64 = w.min.ensures ∙ ap (λ z. min (z - p / 64 * 64) 64) c.size-size.ensures.1 in
+          let e : n ≡ min (image_size image area - p / 64 * 64) 64 = w.min.ensures ∙ ap (λ z. min (z - p / 64 * 64) 64) c.size-size.ensures.least in
           subst (Ready s p) (sym w.self-is) (
             refl,
-            w.copy-words.ensures
+            w.copy_words.ensures
                 ∙ ap (filled area (p / 64 * 64) (λ k. image_word image (p / 64 * 64 + k))) e
                 ∙ sym (ap (λ b. cond b area (page_copied image area p)) w.if-not-self-page.true),
             refl,

@@ -9,5 +9,5 @@ pub returns : goal.returns
 returns c =
     let left = reply_of c.args.self.now in
     let right = reply_of c.args.other.now in
-    same_from_decides c.is-same-answer.result (same_reply left right) c.is-same-answer.ensures (same_reply_decides left right)
-    ∙ sym (simp (c.if-mark.false, c.if-other-mark.false) refl)
+    same_from_decides c.is_same_answer.result (same_reply left right) c.is_same_answer.ensures (same_reply_decides left right)
+    ∙ sym (simp (c.if-mark.false, c.if-other_mark.false) refl)
