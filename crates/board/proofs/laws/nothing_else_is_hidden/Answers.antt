@@ -1,4 +1,4 @@
-use Rattle.board.proofs.Hidden.{nothing_else_is_hidden}
+use Rattle.board.proofs.NothingElse.{nothing_else_is_hidden}
 use Rattle.board.proofs.laws.nothing_else_is_hidden.Goals as goal
 
 pub returns : goal.returns

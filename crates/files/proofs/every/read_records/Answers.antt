@@ -7,7 +7,7 @@ use Rattle.files.proofs.AllShorter.{fewer_left, none_left, was_some, was_none, w
 use Rattle.files.proofs.every.read_records.Goals as goal
 
 -- what is read, where a record follows
-read_some : (c : goal.After-push_reserved-in_loop-rest) → parse (length c.args.bytes.now - length c.loop-rest.rest.now) c.loop-rest.rest.now ≡ Ok (Some (c.in-Some.call, c.in-Some.next.now))
+read_some : (c : goal.After-push_reserved-in-loop-rest) → parse (length c.args.bytes.now - length c.loop-rest.rest.now) c.loop-rest.rest.now ≡ Ok (Some (c.in-Some.call, c.in-Some.next.now))
 read_some c =
     sym c.read.ensures.value
     ∙ was_some c.read.result c.loop-rest.done c.in-Some.call c.in-Some.next (sym c.after.ensures ∙ c.in_ok-call.was ∙ ap (λ o. Ok o) c.in-Some.is)
@@ -56,9 +56,9 @@ loop-rest-preserved c =
     let more = one_more (length c.args.bytes.now) c.loop-rest.done bs inv.0 some c.in-Some.call c.in-Some.next.now (read_some c) in (
       omega (arith, shorter, inv.0),
       omega (arith, shorter, inv.1, c.push_reserved.ensures.len, c.push_reserved.ensures.capacity),
-      omega (arith, shorter, inv.2, c.push_reserved-in_loop-rest.ensures.len, c.push_reserved-in_loop-rest.ensures.capacity),
+      omega (arith, shorter, inv.2, c.push_reserved-in-loop-rest.ensures.len, c.push_reserved-in-loop-rest.ensures.capacity),
       items_more (λ (p : Placed). p.place) _ _ _ inv.3 (vec_items c.push_reserved.new.self) _ _ more c.push_reserved.ensures.items,
-      items_more (λ (p : Placed). p.call) _ _ _ inv.4 (vec_items c.push_reserved-in_loop-rest.new.self) _ _ more c.push_reserved-in_loop-rest.ensures.items,
+      items_more (λ (p : Placed). p.call) _ _ _ inv.4 (vec_items c.push_reserved-in-loop-rest.new.self) _ _ more c.push_reserved-in-loop-rest.ensures.items,
       count_more c.loop-rest.done _ _ inv.5 _ _ more,
     )
 

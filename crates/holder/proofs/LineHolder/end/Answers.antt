@@ -4,7 +4,7 @@ use Rattle.holder.specs.Lines.{overlaid}
 use Rattle.holder.specs.Accesses.{written_down}
 use Rattle.holder.proofs.Held.{Clean, all_clean, clean_none, down_clean, down_means, down_others}
 use Rattle.holder.proofs.LineHolder.end.Goals as goal
-use Rattle.holder.proofs.LineHolder.end.Goals.{in-Some, in-default}
+use Rattle.holder.proofs.LineHolder.end.Goals.{in-Some, in_default}
 
 pub write_down-requires : goal.write_down-requires
 write_down-requires g c = c.args.self.small _ _ c.in-Some.is
@@ -26,7 +26,7 @@ loop-slot-preserved g c =
                   | inr ne ↦ down_others lines i line w.in-Some.is ws own s ne (c.loop-slot.invariant.1 s (let k : s < i = omega arith in k))
                 ]),
           )
-      | in-default w ↦
+      | in_default w ↦
           let e : g.M.Memory.words c.match-found.below ≡ ws = ap g.M.Memory.words w.below-is in (
             ap (overlaid lines) e ∙ c.loop-slot.invariant.0,
             λ s l. subst (λ x. Clean lines x s) (sym e)

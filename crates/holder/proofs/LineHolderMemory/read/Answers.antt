@@ -24,7 +24,7 @@ returns-then-place-size g c =
     }
 
 pub invariant_of-self : goal.invariant_of-self
-invariant_of-self g c = let sound = c.hold-held.ensures.sound in (sound.own, (sound.small, (sound.full, tt)))
+invariant_of-self g c = let sound = c.hold-held.ensures.sound in record { own = sound.own; small = sound.small; full = sound.full }
 
 pub returns : goal.returns
 returns g c =
@@ -45,7 +45,7 @@ returns g c =
     }
 
 pub invariant_of-self-else-not-held : goal.invariant_of-self-else-not-held
-invariant_of-self-else-not-held g c = let sound = c.hold-held.ensures.sound in (sound.own, (sound.small, (sound.full, tt)))
+invariant_of-self-else-not-held g c = let sound = c.hold-held.ensures.sound in record { own = sound.own; small = sound.small; full = sound.full }
 
 pub returns-then-not-held : goal.returns-then-not-held
 returns-then-not-held g c =

@@ -33,7 +33,7 @@ invariant_of-self-2 g c =
     let some = is_some (get_or lines (slot_of p) None) (line_of p) (sym c.hold-held.ensures.held ∙ c.if-not-held.false) in
     let l : slot_of p < length lines = in_range lines (slot_of p) some.0 some.1 in
     let sound = subst Sound (sym c.poke.ensures) (put_sound lines (slot_of p) (p % 16) c.args.word l c.hold-held.ensures.sound) in
-    (sound.own, (sound.small, (sound.full, tt)))
+    record { own = sound.own; small = sound.small; full = sound.full }
 
 pub returns : goal.returns
 returns g c =
@@ -67,7 +67,7 @@ returns g c =
     }
 
 pub invariant_of-self : goal.invariant_of-self
-invariant_of-self g c = let sound = c.hold-held.ensures.sound in (sound.own, (sound.small, (sound.full, tt)))
+invariant_of-self g c = let sound = c.hold-held.ensures.sound in record { own = sound.own; small = sound.small; full = sound.full }
 
 pub returns-then-not-held : goal.returns-then-not-held
 returns-then-not-held g c =

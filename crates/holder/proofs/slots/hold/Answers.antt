@@ -7,7 +7,7 @@ use Rattle.holder.specs.Accesses.{line_at, written_down, takes}
 use Rattle.holder.proofs.Held.{held_is}
 use Rattle.holder.proofs.Steps.{takes_held, takes_past, takes_new, slots_taken, slots_kept, below_taken, below_kept, mid, next_all}
 use Rattle.holder.proofs.slots.hold.Goals as goal
-use Rattle.holder.proofs.slots.hold.Goals.{in-Some, in-default}
+use Rattle.holder.proofs.slots.hold.Goals.{in-Some, in_default}
 
 pub returns-then-is_held : goal.returns-then-is_held
 returns-then-is_held g c =
@@ -43,7 +43,7 @@ returns g c =
     let down : g.M.Memory.words c.match-found.below ≡ mid lines ws p =
     elim c.match-found.branch [
       | in-Some w ↦ ap g.M.Memory.words w.below-is ∙ w.write_down.ensures ∙ sym (ap (λ o. written_down o ws) w.in-Some.is)
-      | in-default w ↦ ap g.M.Memory.words w.below-is ∙ sym (ap (λ o. written_down o ws) w.in_default.is)
+      | in_default w ↦ ap g.M.Memory.words w.below-is ∙ sym (ap (λ o. written_down o ws) w.in_default.is)
     ] in
     let reach : whole (length ws) p ≡ true = grind (arith, nat_tests) in
     let t : takes lines (length ws) p ≡ true = takes_new lines (length ws) p (sym c.if-is_held.ensures) reach in

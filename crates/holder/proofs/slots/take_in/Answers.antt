@@ -3,7 +3,7 @@ use Rattle.std.proofs.lemmas.List.{get_or-set_same, get_or-set_other, length-set
 use Rattle.memory.proofs.Places.{within, outside}
 use Rattle.holder.specs.declared.slots.Line.{Line}
 use Rattle.holder.proofs.slots.take_in.Goals as goal
-use Rattle.holder.proofs.slots.take_in.Goals.{in-Ok, in-default}
+use Rattle.holder.proofs.slots.take_in.Goals.{in-Ok, in_default}
 
 pub loop-k-preserved : goal.loop-k-preserved
 loop-k-preserved g c =
@@ -27,7 +27,7 @@ loop-k-preserved g c =
                 (λ j h. let ne : j ≢ k = omega arith in get_or-set_other old k j word 0 ne ∙ inv.2 j h)
                 (get_or-set_same old k word 0 l ∙ read) j h,
           )
-      | in-default w ↦ absurd (omega (arith, (outside mid (a + k) (get_or mid (a + k) 0) w.in_default.field-0 w.in_default.ensures.answer).0))
+      | in_default w ↦ absurd (omega (arith, (outside mid (a + k) (get_or mid (a + k) 0) w.in_default.field-0 w.in_default.ensures.answer).0))
     ]
 
 pub returns : goal.returns

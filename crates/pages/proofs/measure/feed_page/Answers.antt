@@ -2,7 +2,7 @@ use Rattle.std.proofs.Common.{◌+◌, ◌*◌, [], ◌∷◌, take, drop, sym, 
 use Rattle.pages.specs.Fed.{Fed}
 use Rattle.pages.proofs.Feeds.{turn_word, turn_none}
 use Rattle.pages.proofs.measure.feed_page.Goals as goal
-use Rattle.pages.proofs.measure.feed_page.Goals.{in-Ok, in-default}
+use Rattle.pages.proofs.measure.feed_page.Goals.{in-Ok, in_default}
 
 pub feed-requires : goal.feed-requires
 feed-requires g c =
@@ -19,7 +19,7 @@ loop-offset-preserved g c =
         | in-Ok w ↦
             let P : _ → Type 0 = λ x. Fed d.meaning (d.state was) (d.count was) (w.in-Ok.word ∷ []) (d.state x) (d.count x) in
             turn_word d.meaning ws held (64 * c.args.frame) c.loop-offset.offset c.loop-offset.invariant.1 c.loop-offset.invariant.0 w.in-Ok.word w.in-Ok.ensures.answer (subst P (sym w.digest-is) w.feed.ensures)
-        | in-default w ↦
+        | in_default w ↦
             let P : _ → Type 0 = λ x. Fed d.meaning (d.state c.args.digest.now) (d.count c.args.digest.now) (take (c.loop-offset.offset + 1) (drop (64 * c.args.frame) ws)) (d.state x) (d.count x) in
             subst P (sym w.digest-is) (turn_none d.meaning ws held (64 * c.args.frame) c.loop-offset.offset c.loop-offset.invariant.1 c.loop-offset.invariant.0 w.in_default.field-0 w.in_default.ensures.answer)
       ],

@@ -47,7 +47,7 @@ loop-t-preserved c =
     let word = c.next_word-word.ensures in (
       simp length-set e,
       ap (λ (x : ℕ). take (t + 1) (set w t x)) word ∙ schedule_more w block t low h c.loop-t.invariant.1,
-      c.turn-v-in_loop-t.ensures
+      c.turn-v-in-loop-t.ensures
           ∙ ap (λ (x : ℕ). round c.loop-t.v (get_or constants t 0) x) word
           ∙ round_more w block c.loop-t.v (working c.args.hash.now) t low h c.loop-t.invariant.1 c.loop-t.invariant.2,
     )
