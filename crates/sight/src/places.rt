@@ -17,7 +17,7 @@ pub fn first_apart<T: Place>(
     right: &[T],
     right_marks: &[bool],
 ) -> Option<usize>
-    ensures { result ≡ first_place_apart alike left.now left_marks.now right.now right_marks.now }
+    ensures { result ≡ first_place_apart T.alike left.now left_marks.now right.now right_marks.now }
 {
     let left_len = left.len().min(left_marks.len());
     let right_len = right.len().min(right_marks.len());
