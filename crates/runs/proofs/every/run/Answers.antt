@@ -10,10 +10,10 @@ pub loop-made-preserved : goal.loop-made-preserved
 loop-made-preserved g c =
     let inv = c.loop-made.invariant in
     let xs = inv.0 in
-    let a = c.make.result in (
+    let a = c.make-answer.result in (
       xs ++ (a ∷ []),
       c.push_reserved.ensures.items ∙ ap (λ (ys : List Answer). ys ++ (a ∷ [])) inv.1 ∙ append_assoc (vec_items c.reserve.new.self) xs (a ∷ []),
-      one_more g.M.Memory g.D.Digest.meaning c.args.calls.now c.args.monitor.now xs c.loop-made.made-index c.loop-made.monitor inv.2 _ c.loop-made-test.true c.make.new.monitor a c.make.ensures,
+      one_more g.M.Memory g.D.Digest.meaning c.args.calls.now c.args.monitor.now xs c.loop-made.made-index c.loop-made.monitor inv.2 _ c.loop-made-test.true c.make-answer.new.monitor a c.make-answer.ensures,
       omega (arith, inv.3, c.push_reserved.ensures.len, c.push_reserved.ensures.capacity),
     )
 
