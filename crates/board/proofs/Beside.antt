@@ -1,10 +1,9 @@
 -- Two runs side by side, by the laws.
-use Rattle.std.proofs.Common.{◌≡◌, ℕ, List, subst}
+use Rattle.std.proofs.Common.{ℕ, List, subst}
 use Rattle.digest.specs.Meaning.{Meaning}
 use Rattle.board.specs.declared.Call.{Call}
 use Rattle.board.specs.State.{start}
 use Rattle.board.specs.Steps.{Event, run}
-use Rattle.board.specs.Laws.{Laws}
 use Rattle.board.specs.Beside.{OthersCannotTell, LivesAgree, EachRunKeeps, Side, left, right, of_side, KeptApart}
 use Rattle.board.proofs.Proved.{laws}
 

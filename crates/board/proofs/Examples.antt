@@ -3,7 +3,6 @@ use Rattle.std.proofs.Common.{◌≡◌, ℕ, suc, ◌<◌, List, [], ◌∷◌,
 use lib.Seq.{split_at}
 use Rattle.std.proofs.lemmas.Bool.{true≢false}
 use Rattle.digest.specs.Fold.{fold_meaning}
-use Rattle.board.specs.Effects.{accepted, finished}
 use Rattle.board.specs.Examples.{events, zeros, built, hides, looks, secret_calls, secret_events, TwoSecretsLookAlike, pick, busier_events, choose, HostsChooseAlike, one_life, other_words, other_life, led, ALifeIsLedTwice, ALifeIsCutShort}
 use Rattle.board.specs.Lives.{Finished, Life, Private}
 use Rattle.board.specs.Sight.{DifferOnlyInward, PickedBy, ChosenBy}
@@ -11,7 +10,6 @@ use Rattle.board.specs.State.{start}
 use Rattle.board.specs.Steps.{step, Event, event}
 use Rattle.board.specs.declared.Call.TheVariants.{Exit, Load, Attest}
 use Rattle.board.proofs.Finishes.{law_of_measurements}
-use Rattle.board.proofs.Measure.{alike}
 use Rattle.board.proofs.Secret.{law_of_sight, law_of_choosing_hosts}
 use Rattle.board.proofs.Undisturbed.{law_of_lives}
 

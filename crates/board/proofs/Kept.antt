@@ -2,8 +2,7 @@
 use Rattle.std.proofs.Common.{◌≡◌, ℕ, ◌%◌, ◌<◌, ◌≤◌, Bool, true, not, ◌||◌, eqb, leb, List, length, sym, refl, ap, ◌∙◌, subst, ⊎_elim, arith}
 use Rattle.std.proofs.lemmas.Bool.{cases_eq, eqb-true, eq-eqb, cond_both, both_ways, and_parts, or_cases, or_left, or_right, leb-true, not-true}
 use Rattle.digest.specs.Meaning.{Meaning}
-use Rattle.board.specs.Effects.{with_enclave, with_map, with_entry, with_owners, switched, marked, unmarked, released, removed, effect}
-use Rattle.board.specs.Lives.{runs}
+use Rattle.board.specs.Effects.{with_enclave, with_map, with_entry, with_owners, switched, marked, released, removed, effect}
 use Rattle.board.specs.Measures.{page_words}
 use Rattle.board.specs.Questions.{is_enclave_number, rightful_owner}
 use Rattle.board.specs.State.{State, blank, absent, entry_of, enclave_of, owner_of, inside, page_of}
@@ -14,7 +13,6 @@ use Rattle.board.specs.declared.Context.{Context}
 use Rattle.board.specs.declared.Enclave.{Enclave}
 use Rattle.board.specs.declared.Entry.{Entry}
 use Rattle.board.proofs.Allowed.{Allowed, from_one, host_not, guest_from_one, map_asked}
-use Rattle.board.proofs.Measure.{apart}
 use Rattle.board.proofs.Moves.{at_set, entry_beside, entry_elsewhere, enclave_other, released_kept, cleared_page, stored_beside}
 use Rattle.board.proofs.Phases.{phase_code, phase_at, in_range, there_row}
 use Rattle.board.proofs.Sound.{Shape, Sound}

@@ -15,7 +15,6 @@ use Rattle.board.proofs.Moves.{enclave_at, enclaves_with, enclave_with, enclave_
 use Rattle.board.proofs.Orderly.{Orderly, enclave_after}
 use Rattle.board.proofs.Phases.{in_range}
 use Rattle.board.proofs.Rows.{put, cleared_same, released_at}
-use Rattle.board.proofs.Turn.{outside}
 
 pub inside_same : (b c : Board) (e v : ℕ) → (enclave_of b e).first ≡ (enclave_of c e).first → (enclave_of b e).count ≡ (enclave_of c e).count → inside b e v ≡ inside c e v
 inside_same b c e v f n = ap₂ (λ (x y : ℕ). covers x y v) f n

@@ -17,7 +17,6 @@ use Rattle.board.proofs.Moves.{enclave_new, enclave_other}
 use Rattle.board.proofs.Orderly.{Orderly, orderly}
 use Rattle.board.proofs.Sound.{Inv, start_inv}
 use Rattle.board.proofs.Subject.{step_inv}
-use Rattle.board.proofs.Turn.{outside}
 
 length_seen : (b : Board) (e n : ℕ) (ws : List ℕ) → length (seen_words b e n ws) ≡ length ws
 length_seen b e n [] = refl

@@ -2,7 +2,6 @@
 use Rattle.std.proofs.Common.{◌≡◌, ℕ, ◌≤◌, true, length, sym, refl, ap, ◌∙◌, subst, inl, inr, arith}
 use Rattle.std.proofs.lemmas.Bool.{cases_eq}
 use Rattle.board.specs.Effects.{with_enclave}
-use Rattle.board.specs.Lives.{runs}
 use Rattle.board.specs.State.{State, map_of, entry_of, enclave_of, owner_of, makes_range, inside, page_of}
 use Rattle.board.specs.declared.Board.{Board}
 use Rattle.board.specs.declared.Enclave.{Enclave}

@@ -4,7 +4,6 @@ use Rattle.std.proofs.lemmas.Bool.{cases_eq, cases_Bool, eqb-true, eqb-false, co
 use Rattle.digest.specs.Meaning.{Meaning}
 use Rattle.board.specs.Answers.{Reply}
 use Rattle.board.specs.Effects.{Outcome, with_phase, with_saved, effect}
-use Rattle.board.specs.Examples.{built}
 use Rattle.board.specs.Kinds.{Kind, destroying, entering, resuming, leaving, accessing, plain, kind_of}
 use Rattle.board.specs.Lives.{is_accepted, destroys, ends_life, Own, entered, resumed, made, starts, is_own, start_noted, own_call, accesses_outside, reaches_out}
 use Rattle.board.specs.Questions.{is_enclave_number}

@@ -22,7 +22,6 @@ use Rattle.board.proofs.Measure.{measured_from}
 use Rattle.board.proofs.Orderly.{Orderly, enclave_after}
 use Rattle.board.proofs.Phases.{phase_code, phase_at, absent_row, draft_row}
 use Rattle.board.proofs.Rows.{page_same, AskedAlike}
-use Rattle.board.proofs.Turn.{number}
 
 measured_pages_same : (s t : State) (d n v : ℕ) → ((k : ℕ) → v ≤ k → k < v + n → measured_page s d k ≡ measured_page t d k) → measured_pages s d v n ≡ measured_pages t d v n
 measured_pages_same s t d zero v same = refl

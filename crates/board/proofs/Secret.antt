@@ -6,7 +6,6 @@ use Rattle.board.specs.Answers.{Reply, declining}
 use Rattle.board.specs.Effects.{on_board, with_entry, marked, effect}
 use Rattle.board.specs.Examples.{choose}
 use Rattle.board.specs.Kinds.{Kind, destroying, entering, resuming, leaving, accessing, plain, kind_of}
-use Rattle.board.specs.Lives.{runs}
 use Rattle.board.specs.Questions.{ask, host_runs, is_enclave_number, rightful_owner, questions, decision}
 use Rattle.board.specs.Sight.{outward_kind, outward, inward, DifferOnlyInward, seen, LooksTheSame, Sighting, sighting, sightings, LawOfSight, GoUnseen, noticed, all_noticed, PickedBy, Choice, turn, picked, AsChosen, ChosenBy, LawOfChoosingHosts}
 use Rattle.board.specs.State.{State, start, entry_of, owner_of, inside, page_of, place_of}

@@ -1,5 +1,5 @@
 -- Each accepted call keeps the sizes, and the maps in memory.
-use Rattle.std.proofs.Common.{◌≡◌, ℕ, ◌<◌, ◌≤◌, true, false, ◌&&◌, ltb, leb, List, map, length, get_or, set, refl, ◌∙◌, arith, length-set}
+use Rattle.std.proofs.Common.{◌≡◌, ℕ, ◌<◌, ◌≤◌, true, false, ◌&&◌, ltb, leb, List, length, get_or, set, refl, ◌∙◌, arith, length-set}
 use Rattle.std.proofs.lemmas.Bool.{ltb-true}
 use Rattle.digest.specs.Meaning.{Meaning}
 use Rattle.board.specs.Effects.{with_enclave, with_map, with_entry, with_owners, switched, marked, released, removed, effect}

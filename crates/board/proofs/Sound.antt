@@ -1,8 +1,6 @@
 -- What every reached state has: the invariant.
-use Rattle.std.proofs.Common.{◌≡◌, ℕ, ◌-◌, ◌<◌, ◌≤◌, true, false, eqb, List, map, length, get_or, replicate, sym, refl, ap, ◌∙◌, subst, arith}
+use Rattle.std.proofs.Common.{◌≡◌, ℕ, ◌-◌, ◌<◌, ◌≤◌, true, false, eqb, List, length, get_or, replicate, sym, refl, ap, ◌∙◌, subst, arith}
 use Rattle.std.proofs.lemmas.Bool.{cond_both}
-use Rattle.board.specs.Effects.{unmarked}
-use Rattle.board.specs.Lives.{runs}
 use Rattle.board.specs.Questions.{is_enclave_number}
 use Rattle.board.specs.State.{State, unmapped, blank, idle, absent, fresh, start, map_of, entry_of, enclave_of, owner_of, covers, inside, page_of}
 use Rattle.board.specs.declared.Board.{Board}
@@ -10,7 +8,6 @@ use Rattle.board.specs.declared.Enclave.{Enclave}
 use Rattle.board.specs.declared.Entry.{Entry}
 use Rattle.board.proofs.Allowed.{from_one}
 use Rattle.board.proofs.Lists.{replicated}
-use Rattle.board.proofs.Measure.{apart}
 use Rattle.board.proofs.Phases.{phase_code, phase_at}
 
 -- sizes, and maps that lie in memory

@@ -2,8 +2,7 @@
 use Rattle.std.proofs.Common.{◌≡◌, ℕ, ◌<◌, ◌≤◌, true, false, ltb, ◌⊎◌, List, get_or, set, sym, refl, ap, ◌∙◌, subst, ap₂, inl, inr, ⊎_elim, arith, get_or-set_same}
 use Rattle.std.proofs.lemmas.Bool.{cases_eq, eqb-true, and_parts, ltb-true}
 use Rattle.digest.specs.Meaning.{Meaning}
-use Rattle.board.specs.Effects.{Outcome, with_enclave, with_map, with_entry, with_owners, switched, unmarked, effect}
-use Rattle.board.specs.Lives.{runs}
+use Rattle.board.specs.Effects.{Outcome, with_enclave, with_map, with_entry, with_owners, switched, effect}
 use Rattle.board.specs.Questions.{is_enclave_number}
 use Rattle.board.specs.State.{State, unmapped, blank, idle, absent, map_of, entry_of, enclave_of, owner_of, covers, inside, page_of}
 use Rattle.board.specs.Steps.{step}
@@ -17,7 +16,6 @@ use Rattle.board.specs.declared.Phase.TheVariants.{Draft}
 use Rattle.board.proofs.Allowed.{Allowed, step_cases, from_one, up_to_eight, host_zero, host_not}
 use Rattle.board.proofs.Kept.{kept_sound, subject, kept}
 use Rattle.board.proofs.Lists.{replicated}
-use Rattle.board.proofs.Measure.{apart}
 use Rattle.board.proofs.Moves.{at_set, entry_new, entry_beside, enclave_new}
 use Rattle.board.proofs.Phases.{phase_code, phase_at, in_range, absent_row, draft_row, ready_row, paused_row}
 use Rattle.board.proofs.Shapes.{effect_shape}

@@ -4,7 +4,6 @@ use Rattle.std.proofs.lemmas.Bool.{eqb-true, cond-false, ne_eqb, false≢true, c
 use Rattle.digest.specs.Meaning.{Meaning, hash, hmac}
 use Rattle.board.specs.Answers.{Reply, accepting}
 use Rattle.board.specs.Effects.{Outcome, finished, effect}
-use Rattle.board.specs.Examples.{built}
 use Rattle.board.specs.Lives.{is_accepted, ends_life, lifetime, Life, Own, entered, is_own, own_call, own_calls, kept_if, own_events, reaches_out, outside_answers, private_page, private, private_after, Begins, Alike, StillBetween, LawOfLives, Attests, LawOfAttestations}
 use Rattle.board.specs.Measurements.{BuiltAlike}
 use Rattle.board.specs.Measures.{measured_words}
@@ -17,7 +16,7 @@ use Rattle.board.specs.declared.Enclave.{Enclave}
 use Rattle.board.proofs.Allowed.{Allowed, step_cases, from_one, up_to_eight, host_not}
 use Rattle.board.proofs.Finishes.{begun, drafted, finish_full}
 use Rattle.board.proofs.Lists.{range_of}
-use Rattle.board.proofs.Measure.{alike, same_build}
+use Rattle.board.proofs.Measure.{same_build}
 use Rattle.board.proofs.Moves.{enclave_new}
 use Rattle.board.proofs.Own.{Alive, own_turn, asks, own_turn_same, own_turned, own_touch, others_view, alive_next, measured_next}
 use Rattle.board.proofs.Phases.{phase_code, phase_at, in_range}

@@ -1,5 +1,5 @@
 -- What each accepted call answers and changes.
-use Rattle.std.specs.Prelude.{ℕ, ◌-◌, true, false, cond, List, [], ◌∷◌, ◌++◌, take, drop, set, replicate, ◌==◌, slice_index, slice_set}
+use Rattle.std.specs.Prelude.{ℕ, ◌-◌, true, false, cond, List, [], ◌∷◌, ◌++◌, take, drop, replicate, ◌==◌, slice_index, slice_set}
 use Rattle.digest.specs.Meaning.{Meaning, hash, hmac}
 use Rattle.board.specs.declared.Board.{Board}
 use Rattle.board.specs.declared.Enclave.{Enclave}

@@ -1,5 +1,5 @@
 -- Boundary runs on a new monitor over a memory of zeros, and two values of definitions: what is found and what is listed.
-use Rattle.std.specs.Prelude.{◌≡◌, List, [], ◌∷◌, map, ℕ, length, get_or, replicate}
+use Rattle.std.specs.Prelude.{◌≡◌, List, [], ◌∷◌, map, ℕ, get_or, replicate}
 use Rattle.digest.specs.Meaning.{hash}
 use Rattle.digest.specs.Fold.{fold_meaning}
 use Rattle.scrambler.specs.Pads.{pad}

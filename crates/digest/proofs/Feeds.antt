@@ -1,8 +1,8 @@
 -- What a list of words does to a digest's state: one word on, at its end, and over two lists.
-use Rattle.std.proofs.Common.{◌≡◌, ℕ, zero, suc, ◌+◌, ◌-◌, ◌<◌, ◌≤◌, List, [], ◌∷◌, ◌++◌, map, length, get_or, drop, replicate, sym, refl, ap, ◌∙◌, ap₂, add-zero, zero-add, arith}
+use Rattle.std.proofs.Common.{◌≡◌, ℕ, zero, suc, ◌+◌, ◌-◌, ◌<◌, ◌≤◌, List, [], ◌∷◌, ◌++◌, length, get_or, drop, replicate, sym, refl, ap, ◌∙◌, ap₂, add-zero, zero-add, arith}
 use lib.Bits.{bit_xor}
 use Rattle.std.proofs.lemmas.List.{at_drop_more, at_drop_all, length-append, length-map, length-replicate, get_or-map}
-use Rattle.digest.specs.Meaning.{Meaning, fed, hash, masked, keyed}
+use Rattle.digest.specs.Meaning.{Meaning, fed, hash, keyed}
 
 -- The key's block has one block of words.
 pub length_keyed : (b : ℕ) (key : List ℕ) (mask : ℕ) → length key ≤ b → length (keyed b key mask) ≡ b

@@ -7,7 +7,7 @@ use Rattle.faults.specs.declared.ReadFault.TheVariants.{UnknownKind}
 use Rattle.faults.specs.declared.RunFault.{RunFault}
 use Rattle.faults.specs.Faults.{with_done}
 use Rattle.records.specs.Kinds.{Row, rows, row_of, total}
-use Rattle.records.specs.Records.{Read, seen, call_at, by_row, parse}
+use Rattle.records.specs.Records.{Read, seen, call_at, by_row}
 use Rattle.files.specs.Files.{Placed, Filed, heard, ends, before, after_read, filed_from, end_by}
 
 -- what is read of a body leaves no more than the body

@@ -8,7 +8,7 @@ use Rattle.digest.specs.Meaning.{Meaning, fed, hash}
 use Rattle.digest.proofs.Feeds.{fed_append}
 use Rattle.board.specs.declared.Board.{Board}
 use Rattle.board.specs.State.{State, entry_of}
-use Rattle.board.specs.Measures.{page_words, measured_page, measured_pages}
+use Rattle.board.specs.Measures.{measured_page, measured_pages}
 use Rattle.pages.specs.Fed.{Fed}
 
 module _ (m : Meaning) where

@@ -1,5 +1,5 @@
 -- One call of any kind more at the front of a run.
-use Rattle.std.proofs.Common.{◌≡◌, ℕ, ◌+◌, ◌<◌, ◌≤◌, List, [], ◌∷◌, ◌++◌, map, length, get_or, drop, sym, refl, ap, ◌∙◌, subst, ap₂, append_assoc, append-nil}
+use Rattle.std.proofs.Common.{◌≡◌, ℕ, ◌+◌, ◌<◌, ◌≤◌, List, [], ◌∷◌, ◌++◌, length, get_or, drop, sym, refl, ap, ◌∙◌, subst, ap₂, append_assoc, append-nil}
 use Rattle.std.proofs.lemmas.List.{at_drop_all, drop_more}
 use Rattle.memory.specs.declared.Memory
 use Rattle.digest.specs.Meaning.{Meaning}

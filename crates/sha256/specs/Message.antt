@@ -1,5 +1,5 @@
 -- SHA-256 of a whole message of words, each four bytes, the highest first: FIPS 180-4, 5.1.1, 5.2.1 and 6.2.2.
-use Rattle.std.specs.Prelude.{ℕ, zero, suc, ◌+◌, ◌-◌, ◌*◌, ◌/◌, ◌%◌, ◌^◌, List, [], ◌∷◌, ◌++◌, length, take, drop, replicate}
+use Rattle.std.specs.Prelude.{ℕ, zero, suc, ◌-◌, ◌*◌, ◌/◌, ◌%◌, ◌^◌, List, [], ◌∷◌, ◌++◌, length, take, drop, replicate}
 use Rattle.sha256.specs.Functions.{start}
 use Rattle.sha256.specs.Compression.{compressed}
 

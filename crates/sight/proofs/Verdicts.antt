@@ -1,11 +1,11 @@
 -- A verdict, from what its parts tell.
-use Rattle.std.proofs.Common.{◌≡◌, ℕ, Bool, List, [], ◌∷◌, map, vec_items, sym, refl, ap, ◌∙◌, subst, append-nil}
+use Rattle.std.proofs.Common.{◌≡◌, ℕ, Bool, List, [], ◌∷◌, map, vec_items, sym, refl, ap, subst, append-nil}
 use Rattle.digest.specs.Meaning.{Meaning}
 use Rattle.board.specs.declared.Answer.{Answer}
 use Rattle.board.specs.declared.Call.{Call}
 use Rattle.board.specs.State.{State, start}
 use Rattle.board.specs.Answers.{reply_of}
-use Rattle.board.specs.Steps.{Event, run, step}
+use Rattle.board.specs.Steps.{run, step}
 use Rattle.board.specs.Sight.{Sighting}
 use Rattle.board.proofs.Beside.{kept_apart}
 use Rattle.sight.specs.Marks.{TellsInwardCalls}

@@ -1,4 +1,4 @@
-use Rattle.std.proofs.Common.{◌≡◌, ◌+◌, ◌≤◌, List, [], ◌∷◌, ◌++◌, length, vec_items, sym, ap, ◌∙◌, subst, append_assoc, append-nil, arith, rules}
+use Rattle.std.proofs.Common.{◌≤◌, List, [], ◌∷◌, ◌++◌, length, vec_items, sym, ap, ◌∙◌, subst, append_assoc, append-nil, arith, rules}
 use Rattle.board.specs.declared.Answer.{Answer}
 use Rattle.runs.specs.Runs.{Ran, heeded}
 use Rattle.runs.proofs.Turns.{all_made, not_heeded, one_more}

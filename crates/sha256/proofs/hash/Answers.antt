@@ -1,6 +1,6 @@
-use Rattle.std.proofs.Common.{◌≡◌, ℕ, ◌≤◌, length, sym, ap, ◌∙◌, ap₂, arith, rules}
+use Rattle.std.proofs.Common.{◌≡◌, length, sym, ◌∙◌, ap₂, arith, rules}
 use Rattle.digest.proofs.Feeds.{fed_more, fed_all}
-use Rattle.sha256.specs.Stream.{Running, closed, sha_meaning}
+use Rattle.sha256.specs.Stream.{closed, sha_meaning}
 use Rattle.sha256.proofs.Whole.{streams}
 use Rattle.sha256.proofs.hash.Goals as goal
 

@@ -1,4 +1,4 @@
-use Rattle.std.proofs.Common.{◌≡◌, ℕ, ◌+◌, ◌-◌, ◌<◌, length, IsErrAnd, Some, None, Ok, Err, vec_items, Result, sym, ap, ◌∙◌, arith, rules}
+use Rattle.std.proofs.Common.{◌≡◌, ℕ, ◌-◌, ◌<◌, length, IsErrAnd, Some, None, Ok, Err, vec_items, Result, sym, ap, ◌∙◌, arith, rules}
 use Rattle.faults.specs.declared.ReadFault.{ReadFault}
 use Rattle.faults.specs.declared.RunFault.{RunFault}
 use Rattle.records.specs.Records.{parse}

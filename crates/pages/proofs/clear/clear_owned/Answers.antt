@@ -1,4 +1,4 @@
-use Rattle.std.proofs.Common.{◌≡◌, length, sym, refl, ap, ◌∙◌, arith}
+use Rattle.std.proofs.Common.{◌≡◌, length, sym, ap, ◌∙◌, arith}
 use Rattle.pages.proofs.Sweeps.{Sweep, kept_turn, wiped_turn, swept}
 use Rattle.pages.proofs.clear.clear_owned.Goals as goal
 use Rattle.pages.proofs.clear.clear_owned.Goals.{then-owner-number, else-owner-number}

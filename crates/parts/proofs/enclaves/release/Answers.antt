@@ -1,4 +1,4 @@
-use Rattle.std.proofs.Common.{◌≡◌, length, sym, refl, ap, ◌∙◌, arith}
+use Rattle.std.proofs.Common.{◌≡◌, length, sym, ap, ◌∙◌, arith}
 use Rattle.std.proofs.lemmas.List.{set-get_or}
 use Rattle.parts.proofs.Releases.{Released, kept_owner_turn, freed_owner_turn, all_released}
 use Rattle.parts.proofs.enclaves.release.Goals as goal

@@ -1,10 +1,6 @@
-use Rattle.std.proofs.Common.{◌≡◌, Bool, true, false, cond, [], ◌∷◌, Ok, Err, Result, refl}
-use Rattle.board.specs.declared.Call.{Call}
-use Rattle.board.specs.declared.Enclave.{Enclave}
-use Rattle.board.specs.Questions.{ask, phase_suits}
+use Rattle.std.proofs.Common.{Bool, true, false, cond, [], ◌∷◌, Ok, Err, refl}
+use Rattle.board.specs.Questions.{ask}
 use Rattle.questions.specs.Ruled.{Ruled}
-use Rattle.questions.specs.Phases.{moved, stepped}
-use Rattle.board.specs.declared.Decline.{Decline}
 use Rattle.board.specs.declared.Decline.TheVariants.{WrongPhase}
 use Rattle.questions.proofs.ask.ask_phase.Goals as goal
 

@@ -1,8 +1,8 @@
-use Rattle.std.proofs.Common.{◌≡◌, ℕ, ◌+◌, ◌-◌, ◌<◌, ◌≤◌, List, length, get_or, take, set, sym, refl, ap, ◌∙◌, arith}
+use Rattle.std.proofs.Common.{◌≡◌, ℕ, ◌+◌, ◌<◌, ◌≤◌, length, get_or, take, set, sym, refl, ap, ◌∙◌, arith}
 use Rattle.std.proofs.lemmas.List.{take_all, length-set}
 use Rattle.sha256.specs.declared.compression.Working.{Working}
 use Rattle.sha256.specs.Functions.{constants}
-use Rattle.sha256.specs.Compression.{word_at, schedule, round, rounds, working, added, compressed}
+use Rattle.sha256.specs.Compression.{schedule, round, rounds, working, added, compressed}
 use Rattle.sha256.proofs.Steps.{rounds_more, round_more, schedule_more, copy_more}
 use Rattle.sha256.proofs.compression.compress.Goals as goal
 
