@@ -9,9 +9,9 @@ use Rattle.board.specs.Beside.{KeptApart}
 use Rattle.files.specs.Files.{calls_of, IsFiled}
 use Rattle.files.specs.Every.{all_filed}
 use Rattle.runs.specs.Every.{events, RanNew}
-use Rattle.compare.specs.declared.files.Answered.{Answered}
-use Rattle.compare.specs.declared.files.Replayed.{Replayed}
-use Rattle.compare.specs.declared.files.ComparedFiles.{ComparedFiles}
+use Rattle.compare.specs.declared.replay.Answered.{Answered}
+use Rattle.compare.specs.declared.replay.Replayed.{Replayed}
+use Rattle.compare.specs.declared.replay.ComparedFiles.{ComparedFiles}
 
 -- the calls of a file before its first fault
 abbrev pub calls_in : List ℕ → List Call

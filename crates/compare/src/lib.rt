@@ -10,7 +10,7 @@ use memory::Memory;
 use runs::every::{Ended, run_new};
 use std::alloc::Global;
 
-pub mod files;
+pub mod replay;
 
 #[derive(Drop)]
 pub struct Compared<M, N> {

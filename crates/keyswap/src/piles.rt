@@ -1,5 +1,5 @@
 // One pair of runs over several piles of memory.
-use compare::files::{Answered, ComparedFiles, Replayed, compare_files};
+use compare::replay::{Answered, ComparedFiles, Replayed, compare_files};
 use holder::LineHolder;
 use logs::log_text;
 use memory::{ImageMemory, Memory, WordMemory};

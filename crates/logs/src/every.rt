@@ -2,7 +2,7 @@
 ghost use Rattle.logs.specs.Every.{Logs};
 
 use crate::log_text;
-use compare::files::{Replayed, run_file};
+use compare::replay::{Replayed, run_file};
 use digest::Digest;
 use memory::Memory;
 use std::alloc::{AllocError, Global};

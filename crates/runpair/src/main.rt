@@ -5,7 +5,7 @@
 mod show;
 
 use anyhow::anyhow;
-use compare::files::{Answered, ComparedFiles, Replayed, compare_files};
+use compare::replay::{Answered, ComparedFiles, Replayed, compare_files};
 use files::take_run;
 use memory::WordMemory;
 use sha256::Sha256;

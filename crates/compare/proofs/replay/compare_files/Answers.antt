@@ -1,6 +1,6 @@
 use Rattle.board.proofs.Beside.{kept_apart}
 use Rattle.compare.specs.Replays.{calls_in}
-use Rattle.compare.proofs.files.compare_files.Goals as goal
+use Rattle.compare.proofs.replay.compare_files.Goals as goal
 
 pub returns : goal.returns
 returns g c =

@@ -1,6 +1,6 @@
 use Rattle.std.proofs.Common.{refl}
 use Rattle.compare.proofs.Made.{at_ok, at_err, answered, beside_any}
-use Rattle.compare.proofs.files.run_file.Goals as goal
+use Rattle.compare.proofs.replay.run_file.Goals as goal
 
 pub returns-in-Err : goal.returns-in-Err
 returns-in-Err g c = record { ran = refl; apart = beside_any g.M.Memory g.D.Digest c.args.key c.args.memory c.args.bytes.now }
