@@ -91,7 +91,7 @@ pub owner_either : (b : Board) (a : ℕ) (P : ℕ → Type 0) → P 0 → P b.ru
 owner_either b a P z r = cond_both (inside b b.running (page_of a)) b.running 0 P (λ _. r) (λ _. z)
 
 module _ (h : Meaning) (key : List ℕ) (e : ℕ) (l : 1 ≤ e) (s : State) (i : Shape s.board) where
-  -- only e''s record changes
+  -- only the record of e' changes
   kept_enclave : (e' : ℕ) (r : Enclave) → 1 ≤ e' → (e' ≡ e → ⊥) → (s.board.running ≡ e → ⊥) → Kept e s (record { board = with_enclave s.board e' r; words = s.words })
   kept_enclave e' r l' n a =
       record {

@@ -3,7 +3,7 @@
 #![tactic(auto)]
 
 ghost use Rattle.std.specs.Prelude.{◌≡◌, ℕ, ◌+◌, ◌<◌, ◌≤◌, List, [], ◌∷◌, ◌++◌, length, Ok, Err};
-ghost use Rattle.digest.specs.Meaning.{hmac_of, hmac as hmac-over};
+ghost use Rattle.digest.specs.Meaning.{hmac_of, hmac as hmac_over};
 ghost use Rattle.digest.specs.Numbers.{fault_number};
 ghost use Rattle.sha256.specs.Message.{sha256};
 ghost use Rattle.vectors.specs.Wide.{wide_meaning};
@@ -27,14 +27,14 @@ fn hmac_sha256(key: &[u32; 8], text: &[u32]) -> Result<[u32; 8], Fault>
 
 // HMAC over the fold with a block of 34 words: another block length, and no proof of its own.
 fn hmac_wide(key: &[u32; 8], text: &[u32]) -> Result<[u32; 8], Fault>
-    ensures { elim result [ Ok t ↦ (34 + length text.now ≤ 65536) × (t ≡ hmac-over wide_meaning key.now text.now) | Err e ↦ (fault_number e ≡ 13) × (65536 < 34 + length text.now) ] }
+    ensures { elim result [ Ok t ↦ (34 + length text.now ≤ 65536) × (t ≡ hmac_over wide_meaning key.now text.now) | Err e ↦ (fault_number e ≡ 13) × (65536 < 34 + length text.now) ] }
 {
     let mut digest = WideFold::new();
     hmac(&mut digest, key, text)
 }
 
 fn tag_wide(key: &[u32; 8], measurement: &[u32; 8], word: u32) -> [u32; 8]
-    ensures { result ≡ hmac-over wide_meaning key.now (measurement.now ++ word ∷ []) }
+    ensures { result ≡ hmac_over wide_meaning key.now (measurement.now ++ word ∷ []) }
 {
     let mut digest = WideFold::new();
     tag(&mut digest, key, measurement, word)
