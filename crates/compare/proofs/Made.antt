@@ -15,19 +15,6 @@ use Rattle.files.specs.Every.{all_filed}
 use Rattle.runs.specs.Every.{RanNew}
 use Rattle.compare.specs.Replays.{calls_in, file_events, AnsweredSo}
 
--- what holds of each case of a result, where it is known which it is
-module _ {X E : Type 0} (P : X → Type 0) (Q : E → Type 0) (r : Result X E) (cases : MatchResult r P Q) where
-  C : Result X E → Type 0
-  C s = MatchResult s P Q
-
-  pub at_ok : (x : X) → r ≡ Ok x → P x
-  unfolding C
-  at_ok x e = subst C e cases
-
-  pub at_err : (x : E) → r ≡ Err x → Q x
-  unfolding C
-  at_err x e = subst C e cases
-
 module _ {M D B : Type 0} (m : Memory.Ghosts M) (d : Digest.Ghosts D B) (key : List ℕ) (memory : M) (bs : List ℕ) where
   pub answered : (f : File) (xs : Vec Answer Global) (cs : List Call) (after : M) → IsFiled f (all_filed bs) → cs ≡ vec_items f.calls → RanNew m d key memory cs (vec_items xs) after → AnsweredSo m d key memory bs (record { file = f; answers = xs }) after
   answered f xs cs after is e r =

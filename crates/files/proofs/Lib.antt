@@ -1,2 +1,1 @@
 mod Shorter
-mod AllShorter

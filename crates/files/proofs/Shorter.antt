@@ -1,5 +1,5 @@
 -- Reading one record takes a file on by one call and at least one byte.
-use Rattle.std.proofs.Common.{◌≡◌, ℕ, zero, suc, ◌+◌, ◌-◌, ◌<◌, ◌≤◌, Bool, true, false, cond, eqb, leb, List, [], ◌∷◌, ◌++◌, map, length, drop, Some, None, Ok, Err, Option, Result, sym, refl, ap, ◌∙◌, ⊎_elim, append_assoc, append-nil, arith, length-drop, Bor}
+use Rattle.std.proofs.Common.{◌≡◌, ℕ, zero, suc, ◌+◌, ◌-◌, ◌<◌, ◌≤◌, Bool, true, false, cond, eqb, leb, List, [], ◌∷◌, ◌++◌, map, length, drop, Some, None, Ok, Err, Option, Result, IsErrAnd, sym, refl, ap, ◌∙◌, ⊎_elim, append_assoc, append-nil, arith, length-drop, Bor}
 use Rattle.std.proofs.lemmas.Bool.{cases_Bool}
 use Rattle.board.specs.declared.Call.{Call}
 use Rattle.faults.specs.declared.ReadFault.{ReadFault}
@@ -7,8 +7,9 @@ use Rattle.faults.specs.declared.ReadFault.TheVariants.{UnknownKind}
 use Rattle.faults.specs.declared.RunFault.{RunFault}
 use Rattle.faults.specs.Faults.{with_done}
 use Rattle.records.specs.Kinds.{Row, rows, row_of, total}
-use Rattle.records.specs.Records.{Read, seen, call_at, by_row}
+use Rattle.records.specs.Records.{Read, seen, call_at, by_row, parse}
 use Rattle.files.specs.Files.{Placed, Filed, heard, ends, before, after_read, filed_from, end_by}
+use Rattle.files.specs.Every.{all_filed_from}
 
 -- what is read of a body leaves no more than the body
 rest_of_row : (place k : ℕ) (body : List ℕ) (r : Option Row) (c : Call) (t : List ℕ) → by_row place k body r ≡ Ok (Some (c, t)) → length t ≤ length body
@@ -22,21 +23,33 @@ rest_of_row place k body (Some r) c t e =
     (λ (h : leb (total r.widths) (length body) ≡ false). let f = rw h at e in let z : ◌≡◌ {A = ℕ} 0 1 = cc in absurd (omega arith))
     (cases_Bool (leb (total r.widths) (length body)))
 
+-- what is read leaves fewer bytes
+pub fewer_read : (place : ℕ) (bs : List ℕ) (c : Call) (t : List ℕ) → parse place bs ≡ Ok (Some (c, t)) → length t < length bs
+fewer_read place [] c t e = let z : ◌≡◌ {A = ℕ} 0 1 = cc in absurd (omega arith)
+fewer_read place (k ∷ body) c t e = omega (arith, rest_of_row place k body (row_of k rows) c t e)
+
 -- what is heard was read
 read_too : (b : Bool) (f : ReadFault) (x : Read) (p : Call × List ℕ) → cond b (Err f) x ≡ Ok (Some p) → x ≡ Ok (Some p)
 read_too true f x p e = let z : ◌≡◌ {A = ℕ} 0 1 = cc in absurd (omega arith)
 read_too false f x p e = e
 
--- what is heard leaves fewer bytes
+-- nor does what is heard leave more
 pub fewer_left : (place : ℕ) (bs : List ℕ) (c : Call) (t : List ℕ) → heard place bs ≡ Ok (Some (c, t)) → length t < length bs
 fewer_left place [] c t e = let z : ◌≡◌ {A = ℕ} 0 1 = cc in absurd (omega arith)
-fewer_left place (k ∷ body) c t e = omega (arith, rest_of_row place k body (row_of k rows) c t (read_too (eqb k 17) (UnknownKind place k) _ (c, t) e))
+fewer_left place (k ∷ body) c t e = fewer_read place (k ∷ body) c t (read_too (eqb k 17) (UnknownKind place k) _ (c, t) e)
 
--- no bytes, no records
-pub none_left : (n place : ℕ) (bs : List ℕ) → length bs ≡ 0 → filed_from n place bs ≡ ends None
-none_left zero place [] e = refl
-none_left (suc n) place [] e = refl
-none_left n place (b ∷ bs) e = absurd (omega arith)
+-- Bytes are read by a rule for one record, and what comes of them is got by it record by record.
+pub record Reads (one : ℕ → List ℕ → Read) (from : ℕ → ℕ → List ℕ → Filed) : Type 0 where
+  pub at_end : (place : ℕ) → one place [] ≡ Ok None
+  pub fewer : (place : ℕ) (bs : List ℕ) (c : Call) (t : List ℕ) → one place bs ≡ Ok (Some (c, t)) → length t < length bs
+  pub no_records : (place : ℕ) (bs : List ℕ) → from zero place bs ≡ ends None
+  pub next : (n place : ℕ) (bs : List ℕ) → from (suc n) place bs ≡ after_read (from n) place bs (one place bs)
+
+pub by_heard : Reads heard filed_from
+by_heard = record { at_end = λ place. refl; fewer = fewer_left; no_records = λ place bs. refl; next = λ n place bs. refl }
+
+pub by_parse : Reads parse all_filed_from
+by_parse = record { at_end = λ place. refl; fewer = fewer_read; no_records = λ place bs. refl; next = λ n place bs. refl }
 
 -- what the reader answered, told with the calls done, in terms of what it shows
 pub was_some : (r : Result (Option (Call × Bor (List ℕ))) ReadFault) (n : ℕ) (c : Call) (t : Bor (List ℕ)) → with_done r n ≡ Ok (Some (c, t)) → seen r ≡ Ok (Some (c, t.now))
@@ -53,23 +66,27 @@ was_fault (Err g) n p e =
     let f : ◌≡◌ {A = ReadFault × ℕ} (g, n) p = cc in
     (ap (λ (x : ReadFault × ℕ). Err x.0) f, sym (ap (λ (x : ReadFault × ℕ). x.1) f))
 
--- Before a turn of the loop: n records are read, and bs is left of l bytes.
-module _ (l n : ℕ) (bs : List ℕ) (few : n + length bs ≤ l) (some : 0 < length bs) where
-  -- one record more
-  pub one_more : (c : Call) (t : List ℕ) → heard (l - length bs) bs ≡ Ok (Some (c, t)) → filed_from (l - n) (l - length bs) bs ≡ before (record { place = l - length bs; call = c }) (filed_from (l - (n + 1)) (l - length t) t)
-  one_more c t e =
-      let shorter = fewer_left (l - length bs) bs c t e in
-      let fuel : l - n ≡ suc (l - (n + 1)) = omega arith in
-      let on : (l - length bs) + (length bs - length t) ≡ l - length t = omega arith in
-      ap (λ (k : ℕ). filed_from k (l - length bs) bs) fuel
-      ∙ ap (after_read (filed_from (l - (n + 1))) (l - length bs) bs) e
-      ∙ ap (λ (p : ℕ). before (record { place = l - length bs; call = c }) (filed_from (l - (n + 1)) p t)) on
+module _ {one : ℕ → List ℕ → Read} {from : ℕ → ℕ → List ℕ → Filed} (by : Reads one from) where
+  -- no bytes, no records
+  pub none_left : (n place : ℕ) (bs : List ℕ) → length bs ≡ 0 → from n place bs ≡ ends None
+  none_left zero place bs e = by.no_records place bs
+  none_left (suc n) place [] e = by.next n place [] ∙ ap (after_read (from n) place []) (by.at_end place)
+  none_left (suc n) place (b ∷ bs) e = absurd (omega arith)
 
-  -- no record more
-  pub stops : (h : Read) → heard (l - length bs) bs ≡ h → filed_from (l - n) (l - length bs) bs ≡ after_read (filed_from (l - (n + 1))) (l - length bs) bs h
-  stops h e =
-      let fuel : l - n ≡ suc (l - (n + 1)) = omega arith in
-      ap (λ (k : ℕ). filed_from k (l - length bs) bs) fuel ∙ ap (after_read (filed_from (l - (n + 1))) (l - length bs) bs) e
+  -- Before a turn of the loop: n records are read, and bs is left of l bytes.
+  module _ (l n : ℕ) (bs : List ℕ) (few : n + length bs ≤ l) (some : 0 < length bs) where
+    -- by what is read of it
+    pub stops : (h : Read) → one (l - length bs) bs ≡ h → from (l - n) (l - length bs) bs ≡ after_read (from (l - (n + 1))) (l - length bs) bs h
+    stops h e =
+        let fuel : l - n ≡ suc (l - (n + 1)) = omega arith in
+        ap (λ (k : ℕ). from k (l - length bs) bs) fuel ∙ by.next (l - (n + 1)) (l - length bs) bs ∙ ap (after_read (from (l - (n + 1))) (l - length bs) bs) e
+
+    -- one record more
+    pub one_more : (c : Call) (t : List ℕ) → one (l - length bs) bs ≡ Ok (Some (c, t)) → from (l - n) (l - length bs) bs ≡ before (record { place = l - length bs; call = c }) (from (l - (n + 1)) (l - length t) t)
+    one_more c t e =
+        let shorter = by.fewer (l - length bs) bs c t e in
+        let on : (l - length bs) + (length bs - length t) ≡ l - length t = omega arith in
+        stops _ e ∙ ap (λ (p : ℕ). before (record { place = l - length bs; call = c }) (from (l - (n + 1)) p t)) on
 
 -- Parts of the records so far, and those of the rest: after one record more, and at the end.
 module _ {X : Type 0} (f : Placed → X) (xs : List X) (more : Filed) (all : List X) (so_far : xs ++ map f more.records ≡ all) where
@@ -87,3 +104,8 @@ module _ (n : ℕ) (more : Filed) (end : Result ℕ RunFault) (so_far : end_by (
 
   pub count_end : (e : Option ReadFault) → more ≡ ends e → end_by n e ≡ end
   count_end e is = ap (λ (k : ℕ). end_by k e) (omega arith) ∙ ap (λ (g : Filed). end_by (n + length g.records) g.fault) (sym is) ∙ so_far
+
+-- the reader's fault turned into the run's
+pub turned_into : (r : Result ℕ RunFault) (p : ReadFault × ℕ) → IsErrAnd r (λ f. f ≡ record { fault = p.0; done = p.1 }) → r ≡ Err (record { fault = p.0; done = p.1 })
+turned_into (Ok n) p by = absurd by
+turned_into (Err f) p by = ap (λ (x : RunFault). Err x) by

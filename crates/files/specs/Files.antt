@@ -8,7 +8,7 @@ use Rattle.faults.specs.declared.RunFault.{RunFault}
 use Rattle.records.specs.Records.{Read, parse}
 use Rattle.files.specs.declared.File.{File}
 
--- what the gate hears of bytes that begin at a place: kind 17 is not known yet
+-- what is heard of bytes that begin at a place: kind 17 is not known here
 abbrev pub heard : ℕ → List ℕ → Read
 heard place [] = Ok None
 heard place (k ∷ body) = cond (k == 17) (Err (UnknownKind place k)) (parse place (k ∷ body))

@@ -20,7 +20,7 @@ pub struct File {
     pub end: Result<usize, RunFault>,
 }
 
-// The next record. The gate does not have attest yet: its kind is not known.
+// The next record. The kind of attest is not known here.
 fn read_next(bytes: &[u8], place: usize) -> Result<Option<(Call, &[u8])>, ReadFault>
     ensures value { seen result ≡ heard place bytes.now }
 {

@@ -13,7 +13,7 @@ use Rattle.files.specs.Files.{filed, calls_of}
 use Rattle.runs.specs.Runs.{Ran, heeded}
 use Rattle.logs.specs.Text.{log}
 
--- the calls of a file that the gate has
+-- the calls of a file that are made here
 abbrev pub calls_in : List ℕ → List Call
 calls_in bs = heeded (calls_of (filed bs))
 

@@ -1,3 +1,2 @@
 mod Turns
-mod AllTurns
 mod News

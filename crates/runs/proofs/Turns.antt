@@ -1,6 +1,6 @@
 -- One call more at the front of a run.
-use Rattle.std.proofs.Common.{◌≡◌, ℕ, ◌+◌, ◌<◌, ◌≤◌, true, false, List, [], ◌∷◌, ◌++◌, length, get_or, drop, sym, refl, ap, ◌∙◌, subst, ap₂, append_assoc, append-nil}
-use Rattle.std.proofs.lemmas.List.{at_drop_all, drop_more}
+use Rattle.std.proofs.Common.{◌≡◌, ℕ, ◌+◌, ◌<◌, true, false, List, [], ◌∷◌, ◌++◌, length, get_or, drop, sym, refl, ap, ◌∙◌, subst, ap₂, append_assoc, append-nil}
+use Rattle.std.proofs.lemmas.List.{drop_more}
 use Rattle.memory.specs.declared.Memory
 use Rattle.digest.specs.Meaning.{Meaning}
 use Rattle.board.specs.declared.Answer.{Answer}
@@ -31,32 +31,31 @@ module _ {M D : Type 0} (m : Memory.Ghosts M) (h : Meaning) where
         states_are = ap₂ (λ (x : State) (ys : List State). x ∷ ys) (sym after) (r.states_are ∙ ap states rest);
       }
 
-  -- What is left of the calls, made from k on, makes a run of all of them; so far there are the answers xs.
-  abbrev pub GoesOn : List Call → Monitor M D → List Answer → List Call → Monitor M D → Type 0
-  GoesOn all g xs left k = (ys : List Answer) (z : Monitor M D) → Ran m h (heeded left) k ys z → Ran m h (heeded all) g (xs ++ ys) z
+  -- A run makes the calls as far as f takes them. What is left of them, made from k on, makes a run of all; so far there are
+  -- the answers xs.
+  module _ (f : List Call → List Call) where
+    abbrev pub GoesOn : List Call → Monitor M D → List Answer → List Call → Monitor M D → Type 0
+    GoesOn all g xs left k = (ys : List Answer) (z : Monitor M D) → Ran m h (f left) k ys z → Ran m h (f all) g (xs ++ ys) z
 
-  module _ (all : List Call) (g : Monitor M D) (xs : List Answer) (i : ℕ) (k : Monitor M D) (on : GoesOn all g xs (drop i all) k) where
-    -- at the end of the calls
-    pub all_made : length all ≤ i → Ran m h (heeded all) g xs k
-    all_made e =
-        let none : heeded (drop i all) ≡ [] = at_drop_all heeded all i e in
-        let P : List Call → Type 0 = λ cs. Ran m h cs k [] k in
-        let Q : List Answer → Type 0 = λ ys. Ran m h (heeded all) g ys k in
-        subst Q (append-nil xs) (on [] k (subst P (sym none) (ran_none k)))
-
-    module _ (d : Call) (here : i < length all) where
-      -- at a call that the gate does not have
-      pub not_heeded : in_gate (get_or all i d) ≡ false → Ran m h (heeded all) g xs k
-      not_heeded e =
-          let none : heeded (drop i all) ≡ [] = ap heeded (drop_more all i d here) ∙ rw e refl in
+    module _ (all : List Call) (g : Monitor M D) (xs : List Answer) (i : ℕ) (k : Monitor M D) (on : GoesOn all g xs (drop i all) k) where
+      -- where f takes no more
+      pub stopped : f (drop i all) ≡ [] → Ran m h (f all) g xs k
+      stopped none =
           let P : List Call → Type 0 = λ cs. Ran m h cs k [] k in
-          let Q : List Answer → Type 0 = λ ys. Ran m h (heeded all) g ys k in
+          let Q : List Answer → Type 0 = λ ys. Ran m h (f all) g ys k in
           subst Q (append-nil xs) (on [] k (subst P (sym none) (ran_none k)))
 
       -- after one call more
-      pub one_more : (k' : Monitor M D) (a : Answer) → in_gate (get_or all i d) ≡ true → Does m h (get_or all i d) k (reply_of a) k' → GoesOn all g (xs ++ (a ∷ [])) (drop (i + 1) all) k'
-      one_more k' a e does ys z r =
-          let next : heeded (drop i all) ≡ get_or all i d ∷ heeded (drop (i + 1) all) = ap heeded (drop_more all i d here) ∙ rw e refl in
+      pub one_more : (c : Call) (k' : Monitor M D) (a : Answer) → f (drop i all) ≡ c ∷ f (drop (i + 1) all) → Does m h c k (reply_of a) k' → GoesOn all g (xs ++ (a ∷ [])) (drop (i + 1) all) k'
+      one_more c k' a next does ys z r =
           let P : List Call → Type 0 = λ cs. Ran m h cs k (a ∷ ys) z in
-          let Q : List Answer → Type 0 = λ zs. Ran m h (heeded all) g zs z in
-          subst Q (sym (append_assoc xs (a ∷ []) ys)) (on (a ∷ ys) z (subst P (sym next) (ran_more (get_or all i d) _ k k' z a ys does r)))
+          let Q : List Answer → Type 0 = λ zs. Ran m h (f all) g zs z in
+          subst Q (sym (append_assoc xs (a ∷ []) ys)) (on (a ∷ ys) z (subst P (sym next) (ran_more c _ k k' z a ys does r)))
+
+-- how far the calls are heeded
+module _ (all : List Call) (i : ℕ) (d : Call) (here : i < length all) where
+  pub not_heeded : in_gate (get_or all i d) ≡ false → heeded (drop i all) ≡ []
+  not_heeded e = ap heeded (drop_more all i d here) ∙ rw e refl
+
+  pub heeded_more : in_gate (get_or all i d) ≡ true → heeded (drop i all) ≡ get_or all i d ∷ heeded (drop (i + 1) all)
+  heeded_more e = ap heeded (drop_more all i d here) ∙ rw e refl

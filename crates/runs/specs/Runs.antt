@@ -12,7 +12,7 @@ use Rattle.board.specs.Steps.{Event, run, replies}
 use Rattle.monitor.specs.declared.Monitor.{Monitor}
 use Rattle.monitor.specs.Gate.{Does, state_of}
 
--- the calls that the gate has: all but attest
+-- the calls that are made here: all but attest
 abbrev pub in_gate : Call → Bool
 in_gate (Open e first count entry) = true
 in_gate (Add e v f permission) = true
@@ -32,7 +32,7 @@ in_gate (ReadMap p v) = true
 in_gate (WriteMap p v f permission) = true
 in_gate (Attest w) = false
 
--- the calls up to the first that the gate does not have
+-- the calls up to the first that is not made here
 abbrev pub heeded : List Call → List Call
 heeded [] = []
 heeded (c ∷ cs) = cond (in_gate c) (c ∷ heeded cs) []
@@ -43,7 +43,7 @@ states [] = []
 states (x ∷ xs) = x.after ∷ states xs
 
 module _ {M D : Type 0} (m : Memory.Ghosts M) (h : Meaning) where
-  -- a call was answered as the bare board answers it; or the gate does not have it, and nothing was done
+  -- a call was answered as the bare board answers it; or it is not made here, and nothing was done
   abbrev pub Answered : Call → Monitor M D → Option Answer → Monitor M D → Type 0
   Answered c before (Some a) after = (in_gate c ≡ true) × Does m h c before (reply_of a) after
   Answered c before None after = (in_gate c ≡ false) × (after ≡ before)

@@ -93,7 +93,7 @@ pub fn make<M: Memory, D: Digest>(monitor: &mut Monitor<M, D>, call: Call) -> An
     }
 }
 
-// One call, whichever it is. The gate does not have attest yet.
+// One call, whichever it is but attest, which is not made.
 pub fn call<M: Memory, D: Digest>(monitor: &mut Monitor<M, D>, call: Call) -> Option<Answer>
     ensures { Answered M.Memory D.meaning call monitor.old result monitor.new }
 {
@@ -103,8 +103,8 @@ pub fn call<M: Memory, D: Digest>(monitor: &mut Monitor<M, D>, call: Call) -> Op
     Some(make(monitor, call))
 }
 
-// Makes these calls, up to the first that the gate does not have, and adds their answers; where there is no room for the
-// answers, no call is made.
+// Makes these calls, up to the first attest, and adds their answers; where there is no room for the answers, no call is
+// made.
 pub fn run<M: Memory, D: Digest>(
     monitor: &mut Monitor<M, D>,
     calls: &[Call],

@@ -1,7 +1,8 @@
 use Rattle.std.proofs.Common.{◌≤◌, List, [], ◌∷◌, ◌++◌, length, vec_items, sym, ap, ◌∙◌, subst, append_assoc, append-nil, arith, rules}
 use Rattle.board.specs.declared.Answer.{Answer}
 use Rattle.runs.specs.Runs.{Ran, heeded}
-use Rattle.runs.proofs.Turns.{all_made, not_heeded, one_more}
+use Rattle.std.proofs.lemmas.List.{at_drop_all}
+use Rattle.runs.proofs.Turns.{stopped, not_heeded, heeded_more, one_more}
 use Rattle.runs.proofs.run.Goals as goal
 
 pub loop-made-init : goal.loop-made-init
@@ -15,7 +16,7 @@ loop-made-preserved g c =
     let did = c.in-Some.ensures in (
       xs ++ (a ∷ []),
       c.push_reserved.ensures.items ∙ ap (λ (ys : List Answer). ys ++ (a ∷ [])) inv.1 ∙ append_assoc (vec_items c.reserve.new.self) xs (a ∷ []),
-      one_more g.M.Memory g.D.Digest.meaning c.args.calls.now c.args.monitor.now xs c.loop-made.made-index c.loop-made.monitor inv.2 _ c.loop-made-test.true c.call.new.monitor a did.0 did.1,
+      one_more g.M.Memory g.D.Digest.meaning heeded c.args.calls.now c.args.monitor.now xs c.loop-made.made-index c.loop-made.monitor inv.2 _ c.call.new.monitor a (heeded_more c.args.calls.now c.loop-made.made-index _ c.loop-made-test.true did.0) did.1,
       omega (arith, inv.3, c.push_reserved.ensures.len, c.push_reserved.ensures.capacity),
     )
 
@@ -26,7 +27,7 @@ returns-in_default g c =
     let P : _ → Type 0 = λ k. Ran g.M.Memory g.D.Digest.meaning (heeded c.args.calls.now) c.args.monitor.now inv.0 k in (
       inv.0,
       inv.1 ∙ ap (λ (ys : List Answer). ys ++ inv.0) c.reserve.ensures.items,
-      subst P (sym did.1) (not_heeded g.M.Memory g.D.Digest.meaning c.args.calls.now c.args.monitor.now inv.0 c.loop-made.made-index c.loop-made.monitor inv.2 _ c.loop-made-test.true did.0),
+      subst P (sym did.1) (stopped g.M.Memory g.D.Digest.meaning heeded c.args.calls.now c.args.monitor.now inv.0 c.loop-made.made-index c.loop-made.monitor inv.2 (not_heeded c.args.calls.now c.loop-made.made-index _ c.loop-made-test.true did.0)),
     )
 
 pub returns : goal.returns
@@ -35,5 +36,5 @@ returns g c =
     let end : length c.args.calls.now ≤ c.loop-made.made-index = omega arith in (
       inv.0,
       inv.1 ∙ ap (λ (ys : List Answer). ys ++ inv.0) c.reserve.ensures.items,
-      all_made g.M.Memory g.D.Digest.meaning c.args.calls.now c.args.monitor.now inv.0 c.loop-made.made-index c.loop-made.monitor inv.2 end,
+      stopped g.M.Memory g.D.Digest.meaning heeded c.args.calls.now c.args.monitor.now inv.0 c.loop-made.made-index c.loop-made.monitor inv.2 (at_drop_all heeded c.args.calls.now c.loop-made.made-index end),
     )

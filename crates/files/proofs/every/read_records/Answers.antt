@@ -1,9 +1,7 @@
 use Rattle.std.proofs.Common.{◌≡◌, ℕ, ◌-◌, ◌<◌, length, IsErrAnd, Some, None, Ok, Err, vec_items, Result, sym, ap, ◌∙◌, arith, rules}
-use Rattle.faults.specs.declared.ReadFault.{ReadFault}
-use Rattle.faults.specs.declared.RunFault.{RunFault}
 use Rattle.records.specs.Records.{parse}
 use Rattle.files.specs.Files.{Placed}
-use Rattle.files.proofs.AllShorter.{fewer_left, none_left, was_some, was_none, was_fault, one_more, stops, items_more, items_end, count_more, count_end}
+use Rattle.files.proofs.Shorter.{fewer_read, by_parse, none_left, was_some, was_none, was_fault, one_more, stops, items_more, items_end, count_more, count_end, turned_into}
 use Rattle.files.proofs.every.read_records.Goals as goal
 
 -- what is read, where a record follows
@@ -12,18 +10,13 @@ read_some c =
     sym c.read.ensures.value
     ∙ was_some c.read.result c.loop-rest.done c.in-Some.call c.in-Some.next (sym c.after.ensures ∙ c.in_ok-call.was ∙ ap (λ o. Ok o) c.in-Some.is)
 
--- the reader's fault turned into the run's
-turned_into : (r : Result ℕ RunFault) (p : ReadFault × ℕ) → IsErrAnd r (λ f. f ≡ record { fault = p.0; done = p.1 }) → r ≡ Err (record { fault = p.0; done = p.1 })
-turned_into (Ok n) p by = absurd by
-turned_into (Err f) p by = ap (λ (x : RunFault). Err x) by
-
 pub returns-in_err-call : goal.returns-in_err-call
 returns-in_err-call c =
     let bs = c.loop-rest.rest.now in
     let inv = c.loop-rest.invariant in
     let fault = was_fault c.read.result c.loop-rest.done c.in_err-call.field-0.0 (sym c.after.ensures ∙ c.in_err-call.was) in
     let some : 0 < length bs = search rules in
-    let end = stops (length c.args.bytes.now) c.loop-rest.done bs inv.0 some _ (sym c.read.ensures.value ∙ fault.0) in
+    let end = stops by_parse (length c.args.bytes.now) c.loop-rest.done bs inv.0 some _ (sym c.read.ensures.value ∙ fault.0) in
     let told = turned_into c.from_residual.result c.in_err-call.field-0.0 c.from_residual.ensures.1 in
     record {
       places = items_end (λ (p : Placed). p.place) _ _ _ inv.3 _ end;
@@ -37,7 +30,7 @@ returns-in_default c =
     let inv = c.loop-rest.invariant in
     let none = was_none c.read.result c.loop-rest.done (sym c.after.ensures ∙ c.in_ok-call.was ∙ ap (λ o. Ok o) c.in_default.is) in
     let some : 0 < length bs = search rules in
-    let end = stops (length c.args.bytes.now) c.loop-rest.done bs inv.0 some _ (sym c.read.ensures.value ∙ none) in
+    let end = stops by_parse (length c.args.bytes.now) c.loop-rest.done bs inv.0 some _ (sym c.read.ensures.value ∙ none) in
     record {
       places = items_end (λ (p : Placed). p.place) _ _ _ inv.3 None end;
       calls = items_end (λ (p : Placed). p.call) _ _ _ inv.4 None end;
@@ -45,7 +38,7 @@ returns-in_default c =
     }
 
 pub loop-rest-smaller : goal.loop-rest-smaller
-loop-rest-smaller c = fewer_left _ c.loop-rest.rest.now c.in-Some.call c.in-Some.next.now (read_some c)
+loop-rest-smaller c = fewer_read _ c.loop-rest.rest.now c.in-Some.call c.in-Some.next.now (read_some c)
 
 pub loop-rest-preserved : goal.loop-rest-preserved
 loop-rest-preserved c =
@@ -53,7 +46,7 @@ loop-rest-preserved c =
     let inv = c.loop-rest.invariant in
     let shorter = loop-rest-smaller c in
     let some : 0 < length bs = omega (arith, shorter) in
-    let more = one_more (length c.args.bytes.now) c.loop-rest.done bs inv.0 some c.in-Some.call c.in-Some.next.now (read_some c) in (
+    let more = one_more by_parse (length c.args.bytes.now) c.loop-rest.done bs inv.0 some c.in-Some.call c.in-Some.next.now (read_some c) in (
       omega (arith, shorter, inv.0),
       omega (arith, shorter, inv.1, c.push_reserved.ensures.len, c.push_reserved.ensures.capacity),
       omega (arith, shorter, inv.2, c.push_reserved-in-loop-rest.ensures.len, c.push_reserved-in-loop-rest.ensures.capacity),
@@ -67,7 +60,7 @@ returns c =
     let bs = c.loop-rest.rest.now in
     let inv = c.loop-rest.invariant in
     let empty : length bs ≡ 0 = search rules in
-    let end = none_left _ _ bs empty in
+    let end = none_left by_parse _ _ bs empty in
     record {
       places = items_end (λ (p : Placed). p.place) _ _ _ inv.3 None end;
       calls = items_end (λ (p : Placed). p.call) _ _ _ inv.4 None end;

@@ -1,6 +1,7 @@
 use Rattle.std.proofs.Common.{◌≤◌, List, [], ◌∷◌, ◌++◌, length, vec_items, sym, ap, ◌∙◌, append_assoc, append-nil, arith, rules}
 use Rattle.board.specs.declared.Answer.{Answer}
-use Rattle.runs.proofs.AllTurns.{all_made, one_more}
+use Rattle.std.proofs.lemmas.List.{at_drop_all, drop_more}
+use Rattle.runs.proofs.Turns.{stopped, one_more}
 use Rattle.runs.proofs.every.run.Goals as goal
 
 pub loop-made-init : goal.loop-made-init
@@ -13,7 +14,7 @@ loop-made-preserved g c =
     let a = c.make-answer.result in (
       xs ++ (a ∷ []),
       c.push_reserved.ensures.items ∙ ap (λ (ys : List Answer). ys ++ (a ∷ [])) inv.1 ∙ append_assoc (vec_items c.reserve.new.self) xs (a ∷ []),
-      one_more g.M.Memory g.D.Digest.meaning c.args.calls.now c.args.monitor.now xs c.loop-made.made-index c.loop-made.monitor inv.2 _ c.loop-made-test.true c.make-answer.new.monitor a c.make-answer.ensures,
+      one_more g.M.Memory g.D.Digest.meaning (λ cs. cs) c.args.calls.now c.args.monitor.now xs c.loop-made.made-index c.loop-made.monitor inv.2 _ c.make-answer.new.monitor a (drop_more c.args.calls.now c.loop-made.made-index _ c.loop-made-test.true) c.make-answer.ensures,
       omega (arith, inv.3, c.push_reserved.ensures.len, c.push_reserved.ensures.capacity),
     )
 
@@ -23,5 +24,5 @@ returns g c =
     let end : length c.args.calls.now ≤ c.loop-made.made-index = omega arith in (
       inv.0,
       inv.1 ∙ ap (λ (ys : List Answer). ys ++ inv.0) c.reserve.ensures.items,
-      all_made g.M.Memory g.D.Digest.meaning c.args.calls.now c.args.monitor.now inv.0 c.loop-made.made-index c.loop-made.monitor inv.2 end,
+      stopped g.M.Memory g.D.Digest.meaning (λ cs. cs) c.args.calls.now c.args.monitor.now inv.0 c.loop-made.made-index c.loop-made.monitor inv.2 (at_drop_all (λ cs. cs) c.args.calls.now c.loop-made.made-index end),
     )
