@@ -22,4 +22,5 @@ pub mod Proved
 pub mod Beside
 pub mod Examples
 pub mod Leaks
+pub mod Releases
 pub mod NothingElse

@@ -12,3 +12,4 @@ pub mod Laws
 pub mod Beside
 pub mod Examples
 pub mod Leaks
+pub mod Ranges

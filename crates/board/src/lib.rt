@@ -2,10 +2,18 @@
 // What each call answers and changes is defined in specs/.
 #![tactic(auto)]
 
-ghost use Rattle.std.specs.Prelude.{◌≡◌};
+ghost use Rattle.std.specs.Prelude.{◌≡◌, Ok, Err};
 ghost use Rattle.board.specs.Answers.{decline_number};
+ghost use Rattle.board.specs.declared.Answer.TheVariants.{Done, Word, Mapped, Attested, Declined};
 
+mod enclaves;
+mod entries;
+mod items;
 pub mod laws;
+mod range;
+mod registers;
+
+pub use range::Range;
 
 #[derive(Clone, Copy, PartialEq, Eq)]
 pub enum Phase {
@@ -18,21 +26,21 @@ pub enum Phase {
 
 // One entry of a party's map: where a virtual page lies, what it permits (read 1, write 2, execute 4, summed; 0 is
 // empty), and whether it was used since it was set.
-#[derive(Clone, Copy)]
+#[derive(Clone, Copy, PartialEq, Eq)]
 pub struct Entry {
     pub frame: u8,
     pub permission: u8,
     pub accessed: bool,
 }
 
-#[derive(Clone, Copy)]
+#[derive(Clone, Copy, PartialEq, Eq)]
 pub struct Context {
     pub pc: u16,
     pub registers: [u32; 8],
 }
 
 // The record of an enclave. Its range is `count` virtual pages from `first` on.
-#[derive(Clone, Copy)]
+#[derive(Clone, Copy, PartialEq, Eq)]
 pub struct Enclave {
     pub phase: Phase,
     pub first: u8,
@@ -54,7 +62,7 @@ pub struct Board {
 }
 
 // A call of the gate, with fields of the widths that a record has.
-#[derive(Clone, Copy)]
+#[derive(Clone, Copy, PartialEq, Eq)]
 pub enum Call {
     Open {
         enclave: u8,
@@ -117,17 +125,17 @@ pub enum Call {
     },
 }
 
-// Why the gate declines a call.
-#[derive(Clone, Copy)]
+// Why the gate declines a call, each case with the number of the question that was answered no.
+#[derive(Clone, Copy, PartialEq, Eq)]
 pub enum Decline {
-    WrongMemory,
-    WrongParty,
-    OutOfLimits,
-    WrongPhase,
-    WrongSide,
-    NotPermitted,
-    NotEmpty,
-    WrongOwner,
+    WrongMemory = 1,
+    WrongParty = 2,
+    OutOfLimits = 3,
+    WrongPhase = 4,
+    WrongSide = 5,
+    NotPermitted = 6,
+    NotEmpty = 7,
+    WrongOwner = 8,
 }
 
 impl Decline {
@@ -135,21 +143,12 @@ impl Decline {
     pub fn number(self) -> u32
         ensures { result ≡ decline_number self }
     {
-        match self {
-            Decline::WrongMemory => 1,
-            Decline::WrongParty => 2,
-            Decline::OutOfLimits => 3,
-            Decline::WrongPhase => 4,
-            Decline::WrongSide => 5,
-            Decline::NotPermitted => 6,
-            Decline::NotEmpty => 7,
-            Decline::WrongOwner => 8,
-        }
+        self as u32
     }
 }
 
 // What the gate answers to a call.
-#[derive(Clone, Copy)]
+#[derive(Clone, Copy, PartialEq, Eq)]
 pub enum Answer {
     Done,
     Word(u32),
@@ -157,4 +156,48 @@ pub enum Answer {
     // The measurement, and then its tag.
     Attested([u32; 16]),
     Declined(Decline),
+}
+
+impl From<()> for Answer {
+    ghost from_gives = { λ _ answer. answer ≡ Done };
+
+    fn from(_: ()) -> Answer {
+        Answer::Done
+    }
+}
+
+impl From<u32> for Answer {
+    ghost from_gives = { λ word answer. answer ≡ Word word };
+
+    fn from(word: u32) -> Answer {
+        Answer::Word(word)
+    }
+}
+
+impl From<Entry> for Answer {
+    ghost from_gives = { λ entry answer. answer ≡ Mapped entry };
+
+    fn from(entry: Entry) -> Answer {
+        Answer::Mapped(entry)
+    }
+}
+
+impl From<[u32; 16]> for Answer {
+    ghost from_gives = { λ words answer. answer ≡ Attested words };
+
+    fn from(words: [u32; 16]) -> Answer {
+        Answer::Attested(words)
+    }
+}
+
+// What a call gave, or why it was declined.
+impl<T: Into<Answer>> From<Result<T, Decline>> for Answer {
+    ghost from_gives = { λ res answer. elim res [ Ok given ↦ T.converts given answer | Err decline ↦ answer ≡ Declined decline ] };
+
+    fn from(res: Result<T, Decline>) -> Answer {
+        match res {
+            Ok(given) => given.into(),
+            Err(decline) => Answer::Declined(decline),
+        }
+    }
 }
