@@ -28,7 +28,7 @@ impl<M: Memory, D: Digest> Monitor<M, D> {
         ensures cleared { is_ok result ≡ true → (D.state self.new.digest ≡ D.meaning.first) × (D.count self.new.digest ≡ 0) }
     {
         may_leave(self.memory.size(), &self.board)?;
-        let measurement = parts::enclaves::enclave(&self.board, self.board.running).measurement;
+        let measurement = self.board.enclave(self.board.running).measurement;
         let tag = tag(&mut self.digest, &self.key, &measurement, word);
         *words = joined(measurement, tag);
         Ok(())

@@ -9,8 +9,6 @@ use crate::accesses::word_at;
 use board::*;
 use digest::Digest;
 use memory::Memory;
-use parts::entries::*;
-use parts::registers::*;
 use questions::access::*;
 use questions::ask::*;
 
@@ -20,7 +18,7 @@ impl<M: Memory, D: Digest> Monitor<M, D> {
         ensures { Does M.Memory D.meaning (Load address) self.old (reply_by one_word result) self.new }
     {
         let place = reach_data(self.memory.size(), &self.board, address, READ)?;
-        mark(&mut self.board, address);
+        self.board.mark(address);
         Ok(word_at(&mut self.memory, place))
     }
 
@@ -29,7 +27,7 @@ impl<M: Memory, D: Digest> Monitor<M, D> {
         ensures { Does M.Memory D.meaning (Store address word) self.old (reply_by no_words result) self.new }
     {
         let place = reach_data(self.memory.size(), &self.board, address, WRITE)?;
-        mark(&mut self.board, address);
+        self.board.mark(address);
         let _ = self.memory.write(place, word);
         Ok(())
     }
@@ -39,7 +37,7 @@ impl<M: Memory, D: Digest> Monitor<M, D> {
         ensures { Does M.Memory D.meaning (Fetch address) self.old (reply_by one_word result) self.new }
     {
         let place = reach_code(self.memory.size(), &self.board, address)?;
-        mark(&mut self.board, address);
+        self.board.mark(address);
         self.board.live.pc = address;
         Ok(word_at(&mut self.memory, place))
     }
@@ -48,14 +46,14 @@ impl<M: Memory, D: Digest> Monitor<M, D> {
         ensures { Does M.Memory D.meaning (ReadRegister number) self.old (reply_by one_word result) self.new }
     {
         may_use_register(self.memory.size(), number)?;
-        Ok(register(&self.board, number))
+        Ok(self.board.register(number))
     }
 
     pub fn write_register(&mut self, number: u8, word: u32) -> Result<(), Decline>
         ensures { Does M.Memory D.meaning (WriteRegister number word) self.old (reply_by no_words result) self.new }
     {
         may_use_register(self.memory.size(), number)?;
-        set_register(&mut self.board, number, word);
+        self.board.set_register(number, word);
         Ok(())
     }
 
@@ -84,8 +82,7 @@ impl<M: Memory, D: Digest> Monitor<M, D> {
             frame,
             permission,
         )?;
-        set_entry(
-            &mut self.board,
+        self.board.set_entry(
             party,
             page.into(),
             Entry {

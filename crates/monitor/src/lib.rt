@@ -8,7 +8,6 @@ ghost use Rattle.monitor.specs.Gate.{state_of};
 use board::Board;
 use digest::Digest;
 use memory::Memory;
-use parts::enclaves::new_board;
 
 mod accesses;
 mod attest;
@@ -32,7 +31,7 @@ impl<M: Memory, D: Digest> Monitor<M, D> {
         ensures key { result.key ≡ key }
     {
         Monitor {
-            board: new_board(),
+            board: Board::new(),
             memory,
             digest,
             key,

@@ -14,8 +14,6 @@ use digest::Digest;
 use memory::Memory;
 use pages::clear::clear_pages;
 use pages::measure::measure;
-use parts::enclaves::*;
-use parts::entries::*;
 use questions::ask::*;
 
 impl<M: Memory, D: Digest> Monitor<M, D> {
@@ -37,7 +35,7 @@ impl<M: Memory, D: Digest> Monitor<M, D> {
             count,
             entrypoint,
         )?;
-        set_enclave(&mut self.board, enclave, draft);
+        self.board.set_enclave(enclave, draft);
         Ok(())
     }
 
@@ -53,8 +51,7 @@ impl<M: Memory, D: Digest> Monitor<M, D> {
             frame,
             permission,
         )?;
-        set_entry(
-            &mut self.board,
+        self.board.set_entry(
             enclave,
             page.into(),
             Entry {
@@ -63,7 +60,7 @@ impl<M: Memory, D: Digest> Monitor<M, D> {
                 accessed: false,
             },
         );
-        set_owner(&mut self.board, frame, enclave);
+        self.board.set_owner(frame, enclave);
         Ok(())
     }
 
@@ -74,8 +71,7 @@ impl<M: Memory, D: Digest> Monitor<M, D> {
     {
         let finished = may_finish(self.memory.size(), &self.board, enclave)?;
         let measurement = measure(&mut self.digest, &mut self.memory, &self.board, enclave);
-        set_enclave(
-            &mut self.board,
+        self.board.set_enclave(
             enclave,
             Enclave {
                 measurement,
@@ -93,7 +89,7 @@ impl<M: Memory, D: Digest> Monitor<M, D> {
         ensures key { self.new.key ≡ self.old.key }
     {
         clear_pages(&mut self.memory, &self.board.owners, enclave);
-        forget(&mut self.board, enclave);
+        self.board.forget(enclave);
     }
 
     // Removes a draft.
@@ -134,7 +130,7 @@ impl<M: Memory, D: Digest> Monitor<M, D> {
             enclave,
             Call::Enter { enclave },
         )?;
-        set_enclave(&mut self.board, enclave, entered);
+        self.board.set_enclave(enclave, entered);
         self.board.host = self.board.live;
         self.board.running = enclave;
         self.board.live = Context {
@@ -154,8 +150,8 @@ impl<M: Memory, D: Digest> Monitor<M, D> {
             enclave,
             Call::Resume { enclave },
         )?;
-        let saved = parts::enclaves::enclave(&self.board, enclave).saved;
-        set_enclave(&mut self.board, enclave, resumed);
+        let saved = self.board.enclave(enclave).saved;
+        self.board.set_enclave(enclave, resumed);
         self.board.host = self.board.live;
         self.board.running = enclave;
         self.board.live = saved;
@@ -170,10 +166,10 @@ impl<M: Memory, D: Digest> Monitor<M, D> {
         ensures key { self.new.key ≡ self.old.key }
     {
         let enclave = self.board.running;
-        set_enclave(&mut self.board, enclave, left);
+        self.board.set_enclave(enclave, left);
         self.board.running = 0;
         self.board.live = self.board.host;
-        self.board.host = IDLE;
+        self.board.host = Context::IDLE;
     }
 
     // Ends the turn of the enclave that runs, and goes on with the host.
@@ -181,7 +177,7 @@ impl<M: Memory, D: Digest> Monitor<M, D> {
         ensures { Does M.Memory D.meaning Exit self.old (reply_by no_words result) self.new }
     {
         may_leave(self.memory.size(), &self.board)?;
-        let left = parts::enclaves::enclave(&self.board, self.board.running);
+        let left = self.board.enclave(self.board.running);
         self.leave(Enclave {
             phase: Phase::Ready,
             ..left
@@ -194,7 +190,7 @@ impl<M: Memory, D: Digest> Monitor<M, D> {
         ensures { Does M.Memory D.meaning Pause self.old (reply_by no_words result) self.new }
     {
         may_leave(self.memory.size(), &self.board)?;
-        let left = parts::enclaves::enclave(&self.board, self.board.running);
+        let left = self.board.enclave(self.board.running);
         self.leave(Enclave {
             phase: Phase::Paused,
             saved: self.board.live,

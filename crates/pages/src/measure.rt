@@ -4,12 +4,9 @@ ghost use Rattle.digest.specs.Meaning.{hash};
 ghost use Rattle.board.specs.Measures.{page_words, measured_page, measured_pages, measured_words};
 ghost use Rattle.pages.specs.Fed.{Fed};
 
-use board::Board;
+use board::{Board, Range};
 use digest::Digest;
 use memory::Memory;
-use parts::enclaves::enclave;
-use parts::entries::entry;
-use parts::range::Range;
 
 // Feeds a word where there is room.
 fn feed<D: Digest>(digest: &mut D, word: u32)
@@ -48,7 +45,7 @@ fn feed_entry<M: Memory, D: Digest>(
     ensures fed { Fed D.meaning (D.state digest.old) (D.count digest.old) (measured_page (record { board = board.entry.now; words = M.words memory.old }) number page) (D.state digest.new) (D.count digest.new) }
     ensures same { M.words memory.new ≡ M.words memory.old }
 {
-    let measured = entry(board, number, page.into());
+    let measured = board.entry(number, page.into());
     feed(digest, measured.permission.into());
     if measured.permission != 0 {
         feed_page(digest, memory, measured.frame);
@@ -86,7 +83,7 @@ pub fn measure<M: Memory, D: Digest>(
     ensures state { D.state digest.new ≡ D.meaning.first }
     ensures count { D.count digest.new ≡ 0 }
 {
-    let measured = enclave(board, number);
+    let measured = board.enclave(number);
     digest.clear();
     feed(digest, measured.first.into());
     feed(digest, measured.count.into());

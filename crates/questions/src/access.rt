@@ -8,8 +8,6 @@ ghost use Rattle.questions.specs.Ruled.{Ruled};
 
 use crate::ask::{ask, ask_size};
 use board::*;
-use parts::enclaves::*;
-use parts::entries::entry;
 
 pub const READ: u8 = 1;
 
@@ -17,18 +15,11 @@ pub const WRITE: u8 = 2;
 
 pub(crate) const EXECUTE: u8 = 4;
 
-// Whether an entry permits a right.
-pub(crate) fn entry_permits(entry: Entry, right: u8) -> bool
-    ensures { result ≡ permits right entry }
-{
-    entry.permission & right != 0
-}
-
 // Whose page the running party has to reach at an address.
 fn owner_to_reach(board: &Board, address: u16) -> u8
     ensures { result ≡ rightful_owner board.now address }
 {
-    if is_inside(board, board.running, address / 64) {
+    if board.is_inside(board.running, address / 64) {
         board.running
     } else {
         0
@@ -39,10 +30,10 @@ fn owner_to_reach(board: &Board, address: u16) -> u8
 fn reach(board: &Board, address: u16, right: u8) -> Result<usize, Decline>
     ensures { Ruled (access_questions board.now right address) (place_of board.now address) result }
 {
-    let reached = entry(board, board.running, address / 64);
-    ask(entry_permits(reached, right), Decline::NotPermitted)?;
+    let reached = board.entry(board.running, address / 64);
+    ask(reached.permits(right), Decline::NotPermitted)?;
     ask(
-        owner(board, reached.frame) == owner_to_reach(board, address),
+        board.owner(reached.frame) == owner_to_reach(board, address),
         Decline::WrongOwner,
     )?;
     Ok(64 * reached.frame as usize + (address % 64) as usize)
@@ -64,7 +55,7 @@ pub fn reach_code(size: usize, board: &Board, address: u16) -> Result<usize, Dec
     ask_size(size)?;
     ask(address < 4096, Decline::OutOfLimits)?;
     ask(
-        board.running == 0 || is_inside(board, board.running, address / 64),
+        board.running == 0 || board.is_inside(board.running, address / 64),
         Decline::WrongSide,
     )?;
     reach(board, address, EXECUTE)

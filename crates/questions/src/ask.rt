@@ -10,9 +10,6 @@ ghost use Rattle.questions.specs.Phases.{moved};
 use crate::access::*;
 use crate::phases::step;
 use board::*;
-use parts::enclaves::*;
-use parts::entries::entry;
-use parts::range::Range;
 
 // One question: the decline, unless the answer is yes.
 pub(crate) fn ask(yes: bool, or: Decline) -> Result<(), Decline>
@@ -46,7 +43,7 @@ fn ask_host(size: usize, board: &Board) -> Result<(), Decline>
 fn ask_phase(board: &Board, number: u8, call: Call) -> Result<Enclave, Decline>
     ensures { Ruled (ask 4 (in_phase_for call board.now number) ∷ []) (moved call (enclave_of board.now number)) result }
 {
-    step(enclave(board, number), call)
+    step(board.enclave(number), call)
 }
 
 // Of open; the record of the new draft.
@@ -102,12 +99,12 @@ pub fn may_add(
             permission,
         },
     )?;
-    ask(is_inside(board, number, page.into()), Decline::WrongSide)?;
+    ask(board.is_inside(number, page.into()), Decline::WrongSide)?;
     ask(
-        entry(board, number, page.into()).permission == 0,
+        board.entry(number, page.into()).permission == 0,
         Decline::NotEmpty,
     )?;
-    ask(owner(board, frame) == 0, Decline::WrongOwner)
+    ask(board.owner(frame) == 0, Decline::WrongOwner)
 }
 
 // Of abandon, destroy, enter or resume of this enclave; its record after the call.
@@ -124,8 +121,8 @@ pub fn may_finish(size: usize, board: &Board, number: u8) -> Result<Enclave, Dec
     ensures { Ruled (ask 1 (size == 4096) ∷ questions (Finish number) board.now) (moved (Finish number) (enclave_of board.now number)) result }
 {
     let finished = may_step(size, board, number, Call::Finish { enclave: number })?;
-    let code = entry(board, number, finished.entrypoint / 64);
-    ask(entry_permits(code, EXECUTE), Decline::NotPermitted)?;
+    let code = board.entry(number, finished.entrypoint / 64);
+    ask(code.permits(EXECUTE), Decline::NotPermitted)?;
     Ok(finished)
 }
 
@@ -153,7 +150,7 @@ fn may_use_map(board: &Board, party: u8, page: u8, call: Call) -> Result<(), Dec
         return Ok(());
     }
     let _ = ask_phase(board, party, call)?;
-    ask(!is_inside(board, party, page.into()), Decline::WrongSide)
+    ask(!board.is_inside(party, page.into()), Decline::WrongSide)
 }
 
 // Of read map; the entry.
@@ -163,7 +160,7 @@ pub fn may_read_map(size: usize, board: &Board, party: u8, page: u8) -> Result<E
     ask_host(size, board)?;
     ask(party <= 8 && page < 64, Decline::OutOfLimits)?;
     may_use_map(board, party, page, Call::ReadMap { party, page })?;
-    Ok(entry(board, party, page.into()))
+    Ok(board.entry(party, page.into()))
 }
 
 // Of write map.

@@ -3,7 +3,6 @@ ghost use Rattle.std.specs.Prelude.{◌≡◌};
 ghost use Rattle.questions.specs.Phases.{stepped};
 
 use board::*;
-use parts::enclaves::{ABSENT, IDLE};
 
 // The record after a call on its enclave, or the decline where the phase is not right for the call.
 pub fn step(enclave: Enclave, call: Call) -> Result<Enclave, Decline>
@@ -23,22 +22,22 @@ pub fn step(enclave: Enclave, call: Call) -> Result<Enclave, Decline>
             first,
             count,
             entrypoint,
-            ..ABSENT
+            ..Enclave::ABSENT
         }),
         (Phase::Draft, Call::Add { .. }) => Ok(enclave),
         (Phase::Draft, Call::Finish { .. }) => Ok(Enclave {
             phase: Phase::Ready,
             ..enclave
         }),
-        (Phase::Draft, Call::Abandon { .. }) => Ok(ABSENT),
-        (Phase::Ready | Phase::Paused, Call::Destroy { .. }) => Ok(ABSENT),
+        (Phase::Draft, Call::Abandon { .. }) => Ok(Enclave::ABSENT),
+        (Phase::Ready | Phase::Paused, Call::Destroy { .. }) => Ok(Enclave::ABSENT),
         (Phase::Ready, Call::Enter { .. }) => Ok(Enclave {
             phase: Phase::Running,
             ..enclave
         }),
         (Phase::Paused, Call::Resume { .. }) => Ok(Enclave {
             phase: Phase::Running,
-            saved: IDLE,
+            saved: Context::IDLE,
             ..enclave
         }),
         (

@@ -1,12 +1,10 @@
 // The inward calls of an enclave, found from the calls and answers of a run.
 ghost use Rattle.std.specs.Prelude.{◌≡◌, map, IfOk};
-ghost use Rattle.board.specs.State.{covers};
 ghost use Rattle.board.specs.Answers.{reply_of};
 ghost use Rattle.sight.specs.Marks.{at_start, is_inward_to, accepted_by, next_of, marks_from, TellsInwardCalls};
 
 use board::*;
 use digest::Digest;
-use parts::range::Range;
 use std::alloc::{AllocError, Global};
 
 // What the accepted calls of a run tell of its state: the party that runs, and the range of one enclave.
@@ -15,16 +13,6 @@ struct Watch {
     running: u8,
     first: u8,
     count: u8,
-}
-
-// The range of these numbers covers a page.
-fn covers_page(first: u8, count: u8, page: u16) -> bool
-    ensures { result ≡ covers first count page }
-{
-    match Range::new(first, count) {
-        Some(range) => range.contains(page),
-        None => false,
-    }
 }
 
 impl Watch {
@@ -38,7 +26,7 @@ impl Watch {
         match call {
             Call::Exit | Call::Pause => false,
             Call::Load { address } | Call::Store { address, .. } => {
-                covers_page(self.first, self.count, address / 64)
+                Range::covers(self.first, self.count, address / 64)
             }
             _ => true,
         }
