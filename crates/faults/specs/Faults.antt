@@ -29,8 +29,3 @@ no_room_number d = 11
 -- a file has at most 32,768 bytes
 abbrev pub admitted : List ℕ → Result (Unit {0}) ReadFault
 admitted bs = cond (nat_le (length bs) 32768) (Ok tt) (Err TooLong)
-
--- a result with the calls done beside its fault
-abbrev pub with_done : {X : Type 0} → Result X ReadFault → ℕ → Result X (ReadFault × ℕ)
-with_done (Ok x) done = Ok x
-with_done (Err f) done = Err (f, done)

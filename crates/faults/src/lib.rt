@@ -1,12 +1,11 @@
 // Why a file, a record or a run of them is declined.
 #![tactic(auto)]
 
-ghost use Rattle.std.specs.Prelude.{◌≡◌, ℕ, Result};
-ghost use Rattle.faults.specs.declared.ReadFault.{ReadFault};
-ghost use Rattle.faults.specs.Faults.{fault_number, fault_place, fault_kind, no_room_number, admitted, with_done};
+ghost use Rattle.std.specs.Prelude.{◌≡◌};
+ghost use Rattle.faults.specs.Faults.{fault_number, fault_place, fault_kind, no_room_number, admitted};
 
 // Why no record is read, with the place of its first byte. A file that is too long is not read at all.
-#[derive(Clone, Copy)]
+#[derive(Clone, Copy, PartialEq, Eq)]
 pub enum ReadFault {
     TooLong,
     UnknownKind {
@@ -22,7 +21,7 @@ pub enum ReadFault {
 }
 
 impl ReadFault {
-    // The number of the question that was answered no.
+    // The number of the question that was answered no: by a match, since variants with fields have no numbers of their own.
     pub fn number(self) -> u32
         ensures { result ≡ fault_number self }
     {
@@ -39,8 +38,7 @@ impl ReadFault {
     {
         match self {
             ReadFault::TooLong => 0,
-            ReadFault::UnknownKind { place, .. } => place,
-            ReadFault::ShortBody { place, .. } => place,
+            ReadFault::UnknownKind { place, .. } | ReadFault::ShortBody { place, .. } => place,
         }
     }
 
@@ -50,48 +48,20 @@ impl ReadFault {
     {
         match self {
             ReadFault::TooLong => 0,
-            ReadFault::UnknownKind { kind, .. } => kind,
-            ReadFault::ShortBody { kind, .. } => kind,
+            ReadFault::UnknownKind { kind, .. } | ReadFault::ShortBody { kind, .. } => kind,
         }
     }
 }
 
 // Why a run ended: the reader's fault whole, and how many calls were done before it.
-#[derive(Clone, Copy)]
+#[derive(Clone, Copy, PartialEq, Eq)]
 pub struct RunFault {
     pub fault: ReadFault,
     pub done: usize,
 }
 
-impl From<(ReadFault, usize)> for RunFault {
-    ghost from_gives = { λ f r. r ≡ record { fault = f.0; done = f.1 } };
-
-    fn from((fault, done): (ReadFault, usize)) -> RunFault {
-        RunFault { fault, done }
-    }
-}
-
-// A result whose fault is told with the calls done before it, so that a `?` makes it the run's.
-pub trait After<T> {
-    ghost noted: { Self → ℕ → Result T (ReadFault × ℕ) };
-
-    fn after(self, done: usize) -> Result<T, (ReadFault, usize)>
-        ensures { result ≡ noted self done };
-}
-
-impl<T> After<T> for Result<T, ReadFault> {
-    ghost noted = { with_done };
-
-    fn after(self, done: usize) -> Result<T, (ReadFault, usize)> {
-        match self {
-            Ok(value) => Ok(value),
-            Err(fault) => Err((fault, done)),
-        }
-    }
-}
-
 // Why a record is not written: how many bytes the buffer lacks.
-#[derive(Clone, Copy)]
+#[derive(Clone, Copy, PartialEq, Eq)]
 pub struct NoRoom {
     pub missing: usize,
 }
@@ -113,7 +83,8 @@ pub fn admit(bytes: &[u8]) -> Result<(), ReadFault>
     ensures { result ≡ admitted bytes.now }
 {
     if bytes.len() > LONGEST {
-        return Err(ReadFault::TooLong);
+        Err(ReadFault::TooLong)
+    } else {
+        Ok(())
     }
-    Ok(())
 }

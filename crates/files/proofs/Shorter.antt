@@ -1,13 +1,12 @@
 -- Reading one record takes a file on by one call and at least one byte.
-use Rattle.std.proofs.Common.{◌≡◌, ℕ, zero, suc, ◌+◌, ◌-◌, ◌<◌, ◌≤◌, Bool, true, false, cond, eqb, leb, List, [], ◌∷◌, ◌++◌, map, length, drop, Some, None, Ok, Err, Option, Result, IsErrAnd, sym, refl, ap, ◌∙◌, ⊎_elim, append_assoc, append-nil, arith, length-drop, Bor}
+use Rattle.std.proofs.Common.{◌≡◌, ℕ, zero, suc, ◌+◌, ◌-◌, ◌<◌, ◌≤◌, Bool, true, false, cond, eqb, leb, List, [], ◌∷◌, ◌++◌, map, length, drop, Some, None, Ok, Err, Option, Result, sym, refl, ap, ◌∙◌, ⊎_elim, append_assoc, append-nil, arith, length-drop}
 use Rattle.std.proofs.lemmas.Bool.{cases_Bool}
 use Rattle.board.specs.declared.Call.{Call}
 use Rattle.faults.specs.declared.ReadFault.{ReadFault}
 use Rattle.faults.specs.declared.ReadFault.TheVariants.{UnknownKind}
 use Rattle.faults.specs.declared.RunFault.{RunFault}
-use Rattle.faults.specs.Faults.{with_done}
 use Rattle.records.specs.Kinds.{Row, rows, row_of, total}
-use Rattle.records.specs.Records.{Read, seen, call_at, by_row, parse}
+use Rattle.records.specs.Records.{Read, call_at, by_row, parse}
 use Rattle.files.specs.Files.{Placed, Filed, heard, ends, before, after_read, filed_from, end_by}
 use Rattle.files.specs.Every.{all_filed_from}
 
@@ -51,21 +50,6 @@ by_heard = record { at_end = λ place. refl; fewer = fewer_left; no_records = λ
 pub by_parse : Reads parse all_filed_from
 by_parse = record { at_end = λ place. refl; fewer = fewer_read; no_records = λ place bs. refl; next = λ n place bs. refl }
 
--- what the reader answered, told with the calls done, in terms of what it shows
-pub was_some : (r : Result (Option (Call × Bor (List ℕ))) ReadFault) (n : ℕ) (c : Call) (t : Bor (List ℕ)) → with_done r n ≡ Ok (Some (c, t)) → seen r ≡ Ok (Some (c, t.now))
-was_some (Ok o) n c t e = let f : o ≡ Some (c, t) = cc in ap (λ (x : Option (Call × Bor (List ℕ))). seen (Ok x)) f
-was_some (Err g) n c t e = let z : ◌≡◌ {A = ℕ} 0 1 = cc in absurd (omega arith)
-
-pub was_none : (r : Result (Option (Call × Bor (List ℕ))) ReadFault) (n : ℕ) → with_done r n ≡ Ok None → seen r ≡ Ok None
-was_none (Ok o) n e = let f : o ≡ None = cc in ap (λ (x : Option (Call × Bor (List ℕ))). seen (Ok x)) f
-was_none (Err g) n e = let z : ◌≡◌ {A = ℕ} 0 1 = cc in absurd (omega arith)
-
-pub was_fault : (r : Result (Option (Call × Bor (List ℕ))) ReadFault) (n : ℕ) (p : ReadFault × ℕ) → with_done r n ≡ Err p → (seen r ≡ Err p.0) × (p.1 ≡ n)
-was_fault (Ok o) n p e = let z : ◌≡◌ {A = ℕ} 0 1 = cc in absurd (omega arith)
-was_fault (Err g) n p e =
-    let f : ◌≡◌ {A = ReadFault × ℕ} (g, n) p = cc in
-    (ap (λ (x : ReadFault × ℕ). Err x.0) f, sym (ap (λ (x : ReadFault × ℕ). x.1) f))
-
 module _ {one : ℕ → List ℕ → Read} {from : ℕ → ℕ → List ℕ → Filed} (by : Reads one from) where
   -- no bytes, no records
   pub none_left : (n place : ℕ) (bs : List ℕ) → length bs ≡ 0 → from n place bs ≡ ends None
@@ -104,8 +88,3 @@ module _ (n : ℕ) (more : Filed) (end : Result ℕ RunFault) (so_far : end_by (
 
   pub count_end : (e : Option ReadFault) → more ≡ ends e → end_by n e ≡ end
   count_end e is = ap (λ (k : ℕ). end_by k e) (omega arith) ∙ ap (λ (g : Filed). end_by (n + length g.records) g.fault) (sym is) ∙ so_far
-
--- the reader's fault turned into the run's
-pub turned_into : (r : Result ℕ RunFault) (p : ReadFault × ℕ) → IsErrAnd r (λ f. f ≡ record { fault = p.0; done = p.1 }) → r ≡ Err (record { fault = p.0; done = p.1 })
-turned_into (Ok n) p by = absurd by
-turned_into (Err f) p by = ap (λ (x : RunFault). Err x) by

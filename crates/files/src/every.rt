@@ -25,7 +25,7 @@ fn read_records(
     let mut done = 0;
     while !rest.is_empty() {
         let place = bytes.len() - rest.len();
-        let Some((call, next)) = read(rest, place).after(done)? else {
+        let Some((call, next)) = read(rest, place).map_err(|fault| RunFault { fault, done })? else {
             return Ok(done);
         };
         places.push_reserved(place);
@@ -44,7 +44,7 @@ pub fn read_file(heap: Global, bytes: &[u8]) -> Result<File, AllocError>
         return Ok(File {
             places: Vec::new(heap),
             calls: Vec::new(heap),
-            end: Err(RunFault::from((fault, 0))),
+            end: Err(RunFault { fault, done: 0 }),
         });
     }
     let mut places = Vec::with_capacity(heap, bytes.len())?;

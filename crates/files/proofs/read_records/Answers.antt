@@ -1,40 +1,26 @@
-use Rattle.std.proofs.Common.{◌≡◌, ℕ, ◌-◌, ◌<◌, length, IsErrAnd, Some, None, Ok, Err, vec_items, Result, sym, ap, ◌∙◌, arith, rules}
-use Rattle.files.specs.Files.{Placed, heard}
-use Rattle.files.proofs.Shorter.{fewer_left, by_heard, none_left, was_some, was_none, was_fault, one_more, stops, items_more, items_end, count_more, count_end, turned_into}
+use Rattle.std.proofs.Common.{◌≡◌, ◌-◌, ◌<◌, length, Some, None, Ok, Err, vec_items, sym, ap, ◌∙◌, arith, rules}
+use Rattle.records.specs.Records.{seen}
+use Rattle.files.specs.Files.{Placed, heard, ends, filed_from}
+use Rattle.files.proofs.Shorter.{fewer_left, by_heard, none_left, one_more, stops, items_more, items_end, count_more, count_end}
 use Rattle.files.proofs.read_records.Goals as goal
 
 -- what is heard, where a record follows
 heard_some : (c : goal.After-push_reserved-in-loop-rest) → heard (length c.args.bytes.now - length c.loop-rest.rest.now) c.loop-rest.rest.now ≡ Ok (Some (c.in-Some.call, c.in-Some.next.now))
 heard_some c =
-    sym c.read_next.ensures.value
-    ∙ was_some c.read_next.result c.loop-rest.done c.in-Some.call c.in-Some.next (sym c.after.ensures ∙ c.in_ok-call.was ∙ ap (λ o. Ok o) c.in-Some.is)
+    let read : c.read_next.result ≡ Ok (Some (c.in-Some.call, c.in-Some.next)) = grind arith in
+    sym c.read_next.ensures.value ∙ ap seen read
 
-pub returns-in_err-call : goal.returns-in_err-call
-returns-in_err-call c =
-    let bs = c.loop-rest.rest.now in
-    let inv = c.loop-rest.invariant in
-    let fault = was_fault c.read_next.result c.loop-rest.done c.in_err-call.field-0.0 (sym c.after.ensures ∙ c.in_err-call.was) in
-    let some : 0 < length bs = search rules in
-    let end = stops by_heard (length c.args.bytes.now) c.loop-rest.done bs inv.0 some _ (sym c.read_next.ensures.value ∙ fault.0) in
-    let told = turned_into c.from_residual.result c.in_err-call.field-0.0 c.from_residual.ensures.1 in
-    record {
-      places = items_end (λ (p : Placed). p.place) _ _ _ inv.3 _ end;
-      calls = items_end (λ (p : Placed). p.call) _ _ _ inv.4 _ end;
-      end = told ∙ ap (λ (n : ℕ). Err (record { fault = c.in_err-call.field-0.0.0; done = n })) fault.1 ∙ count_end c.loop-rest.done _ _ inv.5 _ end;
-    }
+-- a fault ends the records there
+ends_here : (c : goal.After-from_residual) → filed_from (length c.args.bytes.now - c.loop-rest.done) (length c.args.bytes.now - length c.loop-rest.rest.now) c.loop-rest.rest.now ≡ ends (Some c.in_err-call.field-0.0.fault)
+ends_here c =
+    let read : c.read_next.result ≡ Err c.in_err-call.field-0.0.fault = grind arith in
+    stops by_heard (length c.args.bytes.now) c.loop-rest.done c.loop-rest.rest.now c.loop-rest.invariant.0 (search rules) _ (sym c.read_next.ensures.value ∙ ap seen read)
 
-pub returns-in_default : goal.returns-in_default
-returns-in_default c =
-    let bs = c.loop-rest.rest.now in
-    let inv = c.loop-rest.invariant in
-    let none = was_none c.read_next.result c.loop-rest.done (sym c.after.ensures ∙ c.in_ok-call.was ∙ ap (λ o. Ok o) c.in_default.is) in
-    let some : 0 < length bs = search rules in
-    let end = stops by_heard (length c.args.bytes.now) c.loop-rest.done bs inv.0 some _ (sym c.read_next.ensures.value ∙ none) in
-    record {
-      places = items_end (λ (p : Placed). p.place) _ _ _ inv.3 None end;
-      calls = items_end (λ (p : Placed). p.call) _ _ _ inv.4 None end;
-      end = count_end c.loop-rest.done _ _ inv.5 None end;
-    }
+pub returns-in_err-call-clause-places : goal.returns-in_err-call-clause-places
+returns-in_err-call-clause-places c = items_end (λ (p : Placed). p.place) _ _ _ c.loop-rest.invariant.3 _ (ends_here c)
+
+pub returns-in_err-call-clause-calls : goal.returns-in_err-call-clause-calls
+returns-in_err-call-clause-calls c = items_end (λ (p : Placed). p.call) _ _ _ c.loop-rest.invariant.4 _ (ends_here c)
 
 pub loop-rest-smaller : goal.loop-rest-smaller
 loop-rest-smaller c = fewer_left _ c.loop-rest.rest.now c.in-Some.call c.in-Some.next.now (heard_some c)
