@@ -7,8 +7,7 @@ use Rattle.faults.specs.declared.ReadFault.TheVariants.{UnknownKind}
 use Rattle.faults.specs.declared.RunFault.{RunFault}
 use Rattle.records.specs.Kinds.{Row, rows, row_of, total}
 use Rattle.records.specs.Records.{Read, call_at, by_row, parse}
-use Rattle.files.specs.Files.{Placed, Filed, heard, ends, before, after_read, filed_from, end_by}
-use Rattle.files.specs.Every.{all_filed_from}
+use Rattle.files.specs.Files.{Placed, Filed, heard, ends, before, after_read, filed_by, end_by}
 
 -- what is read of a body leaves no more than the body
 rest_of_row : (place k : ℕ) (body : List ℕ) (r : Option Row) (c : Call) (t : List ℕ) → by_row place k body r ≡ Ok (Some (c, t)) → length t ≤ length body
@@ -37,40 +36,26 @@ pub fewer_left : (place : ℕ) (bs : List ℕ) (c : Call) (t : List ℕ) → hea
 fewer_left place [] c t e = let z : ◌≡◌ {A = ℕ} 0 1 = cc in absurd (omega arith)
 fewer_left place (k ∷ body) c t e = fewer_read place (k ∷ body) c t (read_too (eqb k 17) (UnknownKind place k) _ (c, t) e)
 
--- Bytes are read by a rule for one record, and what comes of them is got by it record by record.
-pub record Reads (one : ℕ → List ℕ → Read) (from : ℕ → ℕ → List ℕ → Filed) : Type 0 where
-  pub at_end : (place : ℕ) → one place [] ≡ Ok None
-  pub fewer : (place : ℕ) (bs : List ℕ) (c : Call) (t : List ℕ) → one place bs ≡ Ok (Some (c, t)) → length t < length bs
-  pub no_records : (place : ℕ) (bs : List ℕ) → from zero place bs ≡ ends None
-  pub next : (n place : ℕ) (bs : List ℕ) → from (suc n) place bs ≡ after_read (from n) place bs (one place bs)
-
-pub by_heard : Reads heard filed_from
-by_heard = record { at_end = λ place. refl; fewer = fewer_left; no_records = λ place bs. refl; next = λ n place bs. refl }
-
-pub by_parse : Reads parse all_filed_from
-by_parse = record { at_end = λ place. refl; fewer = fewer_read; no_records = λ place bs. refl; next = λ n place bs. refl }
-
-module _ {one : ℕ → List ℕ → Read} {from : ℕ → ℕ → List ℕ → Filed} (by : Reads one from) where
+module _ (one : ℕ → List ℕ → Read) where
   -- no bytes, no records
-  pub none_left : (n place : ℕ) (bs : List ℕ) → length bs ≡ 0 → from n place bs ≡ ends None
-  none_left zero place bs e = by.no_records place bs
-  none_left (suc n) place [] e = by.next n place [] ∙ ap (after_read (from n) place []) (by.at_end place)
-  none_left (suc n) place (b ∷ bs) e = absurd (omega arith)
+  pub none_left : ((place : ℕ) → one place [] ≡ Ok None) → (n place : ℕ) (bs : List ℕ) → length bs ≡ 0 → filed_by one n place bs ≡ ends None
+  none_left at_end zero place bs e = refl
+  none_left at_end (suc n) place [] e = ap (after_read (filed_by one n) place []) (at_end place)
+  none_left at_end (suc n) place (b ∷ bs) e = absurd (omega arith)
 
   -- Before a turn of the loop: n records are read, and bs is left of l bytes.
   module _ (l n : ℕ) (bs : List ℕ) (few : n + length bs ≤ l) (some : 0 < length bs) where
     -- by what is read of it
-    pub stops : (h : Read) → one (l - length bs) bs ≡ h → from (l - n) (l - length bs) bs ≡ after_read (from (l - (n + 1))) (l - length bs) bs h
+    pub stops : (h : Read) → one (l - length bs) bs ≡ h → filed_by one (l - n) (l - length bs) bs ≡ after_read (filed_by one (l - (n + 1))) (l - length bs) bs h
     stops h e =
         let fuel : l - n ≡ suc (l - (n + 1)) = omega arith in
-        ap (λ (k : ℕ). from k (l - length bs) bs) fuel ∙ by.next (l - (n + 1)) (l - length bs) bs ∙ ap (after_read (from (l - (n + 1))) (l - length bs) bs) e
+        ap (λ (k : ℕ). filed_by one k (l - length bs) bs) fuel ∙ ap (after_read (filed_by one (l - (n + 1))) (l - length bs) bs) e
 
     -- one record more
-    pub one_more : (c : Call) (t : List ℕ) → one (l - length bs) bs ≡ Ok (Some (c, t)) → from (l - n) (l - length bs) bs ≡ before (record { place = l - length bs; call = c }) (from (l - (n + 1)) (l - length t) t)
-    one_more c t e =
-        let shorter = by.fewer (l - length bs) bs c t e in
+    pub one_more : (c : Call) (t : List ℕ) → length t < length bs → one (l - length bs) bs ≡ Ok (Some (c, t)) → filed_by one (l - n) (l - length bs) bs ≡ before (record { place = l - length bs; call = c }) (filed_by one (l - (n + 1)) (l - length t) t)
+    one_more c t shorter e =
         let on : (l - length bs) + (length bs - length t) ≡ l - length t = omega arith in
-        stops _ e ∙ ap (λ (p : ℕ). before (record { place = l - length bs; call = c }) (from (l - (n + 1)) p t)) on
+        stops _ e ∙ ap (λ (p : ℕ). before (record { place = l - length bs; call = c }) (filed_by one (l - (n + 1)) p t)) on
 
 -- Parts of the records so far, and those of the rest: after one record more, and at the end.
 module _ {X : Type 0} (f : Placed → X) (xs : List X) (more : Filed) (all : List X) (so_far : xs ++ map f more.records ≡ all) where

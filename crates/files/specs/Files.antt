@@ -1,5 +1,5 @@
 -- What a file of records comes to: its calls with their places, and the fault that ends it, if any.
-use Rattle.std.specs.Prelude.{◌≡◌, ℕ, zero, suc, ◌+◌, ◌-◌, ◌*◌, cond, List, [], ◌∷◌, map, length, take, drop, Some, None, Ok, Err, vec_items, Option, Result, ◌==◌, nat_le, slice_index}
+use Rattle.std.specs.Prelude.{◌≡◌, ℕ, zero, suc, ◌+◌, ◌-◌, ◌*◌, ◌<◌, cond, List, [], ◌∷◌, map, length, take, drop, Some, None, Ok, Err, vec_items, Option, Result, ◌==◌, nat_le, slice_index}
 use Rattle.std.specs.Borrow.{Bor}
 use Rattle.board.specs.declared.Call.{Call}
 use Rattle.faults.specs.declared.ReadFault.{ReadFault}
@@ -36,14 +36,26 @@ after_read more place bs (Ok None) = ends None
 after_read more place bs (Ok (Some t)) = before (record { place = place; call = t.0 }) (more (place + (length bs - length t.1)) t.1)
 after_read more place bs (Err f) = ends (Some f)
 
--- the bytes from a place on, of at most n records
-abbrev pub filed_from : ℕ → ℕ → List ℕ → Filed
-filed_from zero place bs = ends None
-filed_from (suc n) place bs = after_read (filed_from n) place bs (heard place bs)
+-- the bytes from a place on, of at most n records, where one record is read so
+abbrev pub filed_by : (ℕ → List ℕ → Read) → ℕ → ℕ → List ℕ → Filed
+filed_by one zero place bs = ends None
+filed_by one (suc n) place bs = after_read (filed_by one n) place bs (one place bs)
 
 -- a whole file: each record has at least one byte, and a file too long has none
+abbrev pub file_by : (ℕ → List ℕ → Read) → List ℕ → Filed
+file_by one bs = cond (nat_le (length bs) 32768) (filed_by one (length bs) 0 bs) (ends (Some TooLong))
+
+-- a file in which kind 17 is not known
 abbrev pub filed : List ℕ → Filed
-filed bs = cond (nat_le (length bs) 32768) (filed_from (length bs) 0 bs) (ends (Some TooLong))
+filed = file_by heard
+
+-- a file of records of all seventeen kinds
+abbrev pub all_filed : List ℕ → Filed
+all_filed = file_by parse
+
+-- a record that is read leaves fewer bytes
+abbrev pub Shortens : List ℕ → Read → Type 0
+Shortens bs x = (c : Call) (t : List ℕ) → x ≡ Ok (Some (c, t)) → length t < length bs
 
 -- how a run of the file ends: how many calls it has, or its fault with the calls before it
 abbrev pub end_by : ℕ → Option ReadFault → Result ℕ RunFault

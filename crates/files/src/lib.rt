@@ -2,15 +2,15 @@
 #![tactic(auto)]
 
 ghost use Rattle.std.specs.Prelude.{◌≡◌, ◌+◌, ◌≤◌, ◌++◌, length, IfOk, vec_len, vec_capacity};
-ghost use Rattle.records.specs.Records.{seen};
-ghost use Rattle.files.specs.Files.{heard, filed, filed_from, places_of, calls_of, ended, IsFiled, run_off, lent};
+ghost use Rattle.files.specs.Files.{filed_by, file_by, places_of, calls_of, ended, IsFiled, run_off, lent};
 
 use board::Call;
 use faults::*;
-use records::read;
 use std::alloc::{AllocError, Global};
 
-pub mod every;
+mod kinds;
+
+pub use kinds::{AllButAttest, EveryKind, Kinds};
 
 // The calls of a file in order, the place of each record's first byte, and how many they are or the fault that ends them.
 #[derive(Drop)]
@@ -20,47 +20,37 @@ pub struct File {
     pub end: Result<usize, RunFault>,
 }
 
-// The next record. The kind of attest is not known here.
-fn read_next(bytes: &[u8], place: usize) -> Result<Option<(Call, &[u8])>, ReadFault>
-    ensures value { seen result ≡ heard place bytes.now }
-{
-    if let [17, ..] = bytes {
-        return Err(ReadFault::UnknownKind { place, kind: 17 });
-    }
-    read(bytes, place)
-}
-
 // Adds the places and calls of the bytes' records, for which there is room.
-fn read_records(
+fn read_records<K: Kinds>(
     bytes: &[u8],
     places: &mut Vec<usize>,
     calls: &mut Vec<Call>,
 ) -> Result<usize, RunFault>
     requires places { vec_len places.old + length bytes.now ≤ vec_capacity places.old }
     requires calls { vec_len calls.old + length bytes.now ≤ vec_capacity calls.old }
-    ensures places { places.new.items ≡ places.old.items ++ places_of (filed_from (length bytes.now) 0 bytes.now) }
-    ensures calls { calls.new.items ≡ calls.old.items ++ calls_of (filed_from (length bytes.now) 0 bytes.now) }
-    ensures end { result ≡ ended (filed_from (length bytes.now) 0 bytes.now) }
+    requires none { vec_len calls.old ≡ 0 }
+    ensures places { places.new.items ≡ places.old.items ++ places_of (filed_by K.one (length bytes.now) 0 bytes.now) }
+    ensures calls { calls.new.items ≡ calls.old.items ++ calls_of (filed_by K.one (length bytes.now) 0 bytes.now) }
+    ensures end { result ≡ ended (filed_by K.one (length bytes.now) 0 bytes.now) }
 {
     let mut rest = bytes;
-    let mut done = 0;
     while !rest.is_empty() {
         let place = bytes.len() - rest.len();
-        let Some((call, next)) = read_next(rest, place).map_err(|fault| RunFault { fault, done })?
+        let done = calls.len();
+        let Some((call, next)) = K::read(rest, place).map_err(|fault| RunFault { fault, done })?
         else {
             return Ok(done);
         };
         places.push_reserved(place);
         calls.push_reserved(call);
         rest = next;
-        done += 1;
     }
-    Ok(done)
+    Ok(calls.len())
 }
 
-// Reads a file whole, as far as its first fault.
-pub fn read_file(heap: Global, bytes: &[u8]) -> Result<File, AllocError>
-    ensures { IfOk result (λ f. IsFiled f (filed bytes.now)) }
+// Reads a file whole, as far as its first fault. A record of a kind that is not among these is of an unknown kind.
+pub fn read_file<K: Kinds>(heap: Global, bytes: &[u8]) -> Result<File, AllocError>
+    ensures { IfOk result (λ f. IsFiled f (file_by K.one bytes.now)) }
 {
     if let Err(fault) = admit(bytes) {
         return Ok(File {
@@ -71,7 +61,7 @@ pub fn read_file(heap: Global, bytes: &[u8]) -> Result<File, AllocError>
     }
     let mut places = Vec::with_capacity(heap, bytes.len())?;
     let mut calls = Vec::with_capacity(heap, bytes.len())?;
-    let end = read_records(bytes, &mut places, &mut calls);
+    let end = read_records::<K>(bytes, &mut places, &mut calls);
     Ok(File { places, calls, end })
 }
 
