@@ -11,7 +11,7 @@ use Rattle.board.specs.Beside.{KeptApart}
 use Rattle.board.proofs.Beside.{kept_apart}
 use Rattle.files.specs.declared.File.{File}
 use Rattle.files.specs.Files.{IsFiled}
-use Rattle.files.specs.Every.{all_filed}
+use Rattle.files.specs.Files.{all_filed}
 use Rattle.runs.specs.Every.{RanNew}
 use Rattle.compare.specs.Replays.{calls_in, file_events, AnsweredSo}
 

@@ -7,7 +7,7 @@ use Rattle.board.specs.State.{start}
 use Rattle.board.specs.Steps.{Event, run}
 use Rattle.board.specs.Beside.{KeptApart}
 use Rattle.files.specs.Files.{calls_of, IsFiled}
-use Rattle.files.specs.Every.{all_filed}
+use Rattle.files.specs.Files.{all_filed}
 use Rattle.runs.specs.Every.{events, RanNew}
 use Rattle.compare.specs.declared.replay.Answered.{Answered}
 use Rattle.compare.specs.declared.replay.Replayed.{Replayed}

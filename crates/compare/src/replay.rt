@@ -3,8 +3,7 @@ ghost use Rattle.compare.specs.Replays.{Replays, ComparesFiles};
 
 use board::Answer;
 use digest::Digest;
-use files::File;
-use files::every::read_file;
+use files::{EveryKind, File, read_file};
 use memory::Memory;
 use runs::every::{Ended, run_new};
 use std::alloc::{AllocError, Global};
@@ -35,7 +34,7 @@ pub fn run_file<M: Memory, D: Digest + Drop>(
 ) -> Replayed<M>
     ensures { Replays M.Memory D.Digest key memory bytes.now result }
 {
-    let file = match read_file(heap, bytes) {
+    let file = match read_file::<EveryKind>(heap, bytes) {
         Ok(file) => file,
         Err(error) => {
             return Replayed {

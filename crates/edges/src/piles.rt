@@ -2,7 +2,7 @@
 use crate::calls::{InWords, push_records};
 use crate::logging::{WORDS, log_over};
 use board::Call;
-use files::read_file;
+use files::{AllButAttest, read_file};
 use holder::LineHolder;
 use memory::{ImageMemory, Memory, WordMemory};
 use scrambler::Scrambler;
@@ -86,7 +86,7 @@ fn over_layers(heap: Global, bytes: &[u8]) -> Result<Outcome, AllocError> {
 
 // Shows each call of a file beside its line.
 fn print_calls(rt: &HostRuntime, bytes: &[u8], log: &str) -> anyhow::Result<()> {
-    let calls = read_file(rt.alloc(), bytes)?.calls;
+    let calls = read_file::<AllButAttest>(rt.alloc(), bytes)?.calls;
     for (call, line) in calls.as_slice().iter().zip(log.lines()) {
         let call = InWords(*call);
         println!(rt; "  {line}: {call}")?;

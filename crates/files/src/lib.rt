@@ -72,9 +72,5 @@ pub fn take_run(bytes: &[u8]) -> Option<(&[u8], &[u8])>
     let [high, low, rest @ ..] = bytes else {
         return None;
     };
-    let length = 256 * *high as usize + *low as usize;
-    if length > rest.len() {
-        return None;
-    }
-    Some(rest.split_at(length))
+    rest.split_at_checked(u16::from_be_bytes([*high, *low]).into())
 }

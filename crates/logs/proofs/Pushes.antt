@@ -1,11 +1,19 @@
 -- Text that grows at its end.
 use Rattle.std.proofs.Common.{◌≡◌, ℕ, ◌+◌, ◌<◌, ◌≤◌, List, [], ◌∷◌, ◌++◌, map, length, get_or, drop, IfOk, Ok, Err, Result, sym, refl, ap, ◌∙◌, append_assoc, append-nil}
-use Rattle.std.proofs.lemmas.List.{drop_more, at_drop_all}
+use Rattle.std.proofs.Common.{subst, None, Option, Bor}
+use Rattle.std.proofs.iter.Yields.{fronts}
+use Rattle.std.proofs.lemmas.Iterator.{zips}
+use Rattle.std.proofs.lemmas.List.{drop_more, at_drop_all, nil_from_length}
+use Rattle.std.proofs.lemmas.Slice.Zip.{either_empty_from_Zip}
+use Rattle.std.specs.Iterator.Adapters.{zip_first, zip_second}
+use Rattle.std.specs.Slice.Iter.{iter_rest}
+use Rattle.std.specs.declared.iter.Zip.{Zip}
+use Rattle.std.proofs.Common.{Iter}
+use mathlib.Core.Logic.{◌⊎◌, inl, inr}
 use Rattle.board.specs.declared.Answer.{Answer}
 use Rattle.board.specs.declared.Call.{Call}
 use Rattle.board.specs.Answers.{Reply, reply_of}
-use Rattle.records.specs.Kinds.{kind_of}
-use Rattle.logs.specs.Text.{hex, words_text, line, answer_lines}
+use Rattle.logs.specs.Text.{hex, words_text, answer_lines}
 
 -- one byte more, before what follows
 pub before : (b c : List ℕ) (d : ℕ) (xs : List ℕ) → c ≡ b ++ (d ∷ []) → c ++ xs ≡ b ++ (d ∷ xs)
@@ -38,27 +46,19 @@ lines_no_call : (ps : List ℕ) (rs : List Reply) → answer_lines ps [] rs ≡ 
 lines_no_call [] rs = refl
 lines_no_call (p ∷ ps) rs = refl
 
--- A turn of the loop over the answers: i are written.
-module _ (ps : List ℕ) (cs : List Call) (xs : List Answer) (i : ℕ) (b all : List ℕ) (inv : b ++ answer_lines (drop i ps) (drop i cs) (map reply_of (drop i xs)) ≡ all) where
-  pub lines_more : (c : Call) (a : Answer) (kind : ℕ) (d : List ℕ) → i < length ps → i < length cs → i < length xs → kind ≡ kind_of (get_or cs i c) → d ≡ b ++ line (get_or ps i 0) kind (reply_of (get_or xs i a))
-      → d ++ answer_lines (drop (i + 1) ps) (drop (i + 1) cs) (map reply_of (drop (i + 1) xs)) ≡ all
-  lines_more c a kind d p q r k e =
-      let rest = answer_lines (drop (i + 1) ps) (drop (i + 1) cs) (map reply_of (drop (i + 1) xs)) in
-      let here : answer_lines (drop i ps) (drop i cs) (map reply_of (drop i xs)) ≡ line (get_or ps i 0) (kind_of (get_or cs i c)) (reply_of (get_or xs i a)) ++ rest =
-      rw (drop_more ps i 0 p, drop_more cs i c q, drop_more xs i a r) refl in
-      ap (λ (z : List ℕ). z ++ rest) (e ∙ ap (λ (n : ℕ). b ++ line (get_or ps i 0) n (reply_of (get_or xs i a))) k)
-      ∙ append_assoc b (line (get_or ps i 0) (kind_of (get_or cs i c)) (reply_of (get_or xs i a))) rest
-      ∙ ap (λ (z : List ℕ). b ++ z) (sym here)
-      ∙ inv
+no_place_or_call : (ps : List ℕ) (cs : List Call) (rs : List Reply) → (ps ≡ []) ⊎ (cs ≡ []) → answer_lines ps cs rs ≡ []
+no_place_or_call ps cs rs (inl e) = ap (λ (k : List ℕ). answer_lines k cs rs) e
+no_place_or_call ps cs rs (inr e) = ap (λ (k : List Call). answer_lines ps k rs) e ∙ lines_no_call ps rs
 
-  ended : answer_lines (drop i ps) (drop i cs) (map reply_of (drop i xs)) ≡ [] → b ≡ all
-  ended e = sym (append-nil b) ∙ ap (λ (z : List ℕ). b ++ z) (sym e) ∙ inv
+-- nor where going over all three has come to an end
+module _ (s : Zip (Zip (Iter ℕ) (Iter Call)) (Iter Answer)) where
+  over : ((u : Zip (Iter ℕ) (Iter Call)) × zips fronts fronts (zip_first s) None u) ⊎ ((u : Iter Answer) × fronts (zip_second s) None u)
+      → answer_lines (iter_rest (zip_first (zip_first s))) (iter_rest (zip_second (zip_first s))) (map reply_of (iter_rest (zip_second s))) ≡ []
+  over (inl a) = no_place_or_call _ _ _ (either_empty_from_Zip (zip_first s) a.0 None refl a.1)
+  over (inr b) =
+      ap (λ (k : List Answer). answer_lines (iter_rest (zip_first (zip_first s))) (iter_rest (zip_second (zip_first s))) (map reply_of k)) (nil_from_length _ b.1.0)
+      ∙ lines_none (iter_rest (zip_first (zip_first s))) (iter_rest (zip_second (zip_first s)))
 
-  pub no_places : length ps ≤ i → b ≡ all
-  no_places h = ended (at_drop_all (λ (z : List ℕ). answer_lines z (drop i cs) (map reply_of (drop i xs))) ps i h)
-
-  pub no_calls : length cs ≤ i → b ≡ all
-  no_calls h = ended (at_drop_all (λ (z : List Call). answer_lines (drop i ps) z (map reply_of (drop i xs))) cs i h ∙ lines_no_call (drop i ps) (map reply_of (drop i xs)))
-
-  pub no_answers : length xs ≤ i → b ≡ all
-  no_answers h = ended (at_drop_all (λ (z : List Answer). answer_lines (drop i ps) (drop i cs) (map reply_of z)) xs i h ∙ lines_none (drop i ps) (drop i cs))
+  pub lines_over : (t : Zip (Zip (Iter ℕ) (Iter Call)) (Iter Answer)) (r : Option ((Bor ℕ × Bor Call) × Bor Answer)) → r ≡ None → zips (zips fronts fronts) fronts s r t
+      → answer_lines (iter_rest (zip_first (zip_first s))) (iter_rest (zip_second (zip_first s))) (map reply_of (iter_rest (zip_second s))) ≡ []
+  lines_over t r e z = over (subst (λ (o : Option ((Bor ℕ × Bor Call) × Bor Answer)). zips (zips fronts fronts) fronts s o t) e z)

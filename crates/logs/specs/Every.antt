@@ -6,7 +6,7 @@ use Rattle.board.specs.declared.Answer.{Answer}
 use Rattle.board.specs.State.{start}
 use Rattle.board.specs.Steps.{run, replies}
 use Rattle.board.specs.Beside.{KeptApart}
-use Rattle.files.specs.Every.{all_filed}
+use Rattle.files.specs.Files.{all_filed}
 use Rattle.runs.specs.Every.{RanNew}
 use Rattle.compare.specs.Replays.{calls_in, file_events}
 use Rattle.logs.specs.Text.{log}

@@ -24,8 +24,11 @@ mod text;
 fn words_of(entry: Entry) -> [u32; 3]
     ensures { result ≡ entry_words entry }
 {
-    let mark = if entry.accessed { 1 } else { 0 };
-    [entry.frame.into(), entry.permission.into(), mark]
+    [
+        entry.frame.into(),
+        entry.permission.into(),
+        entry.accessed.into(),
+    ]
 }
 
 // Adds the line of an answered call.
@@ -50,10 +53,8 @@ fn push_answers(
 ) -> Result<(), AllocError>
     ensures { OnOk result (string_bytes text.new ≡ string_bytes text.old ++ answer_lines places.now calls.now (map reply_of answers.now)) }
 {
-    let mut i = 0;
-    while i < places.len() && i < calls.len() && i < answers.len() {
-        push_answer(text, places[i], kind(calls[i]), answers[i])?;
-        i += 1;
+    for ((place, call), answer) in places.iter().zip(calls).zip(answers) {
+        push_answer(text, *place, kind(*call), *answer)?;
     }
     Ok(())
 }
@@ -98,7 +99,7 @@ pub fn run_file<M: Memory, D: Digest>(
 ) -> Result<String, AllocError>
     ensures { Logged M.Memory D.meaning bytes.now monitor.old result monitor.new }
 {
-    let file = read_file(heap, bytes)?;
+    let file = read_file::<AllButAttest>(heap, bytes)?;
     let mut answers = Vec::new(heap);
     run(monitor, file.calls.as_slice(), &mut answers)?;
     log_text(heap, &file, answers.as_slice())
