@@ -5,19 +5,8 @@ ghost use Rattle.board.specs.Measures.{page_words, measured_page, measured_pages
 ghost use Rattle.pages.specs.Fed.{Fed};
 
 use board::{Board, Range};
-use digest::Digest;
+use digest::{Digest, put};
 use memory::Memory;
-
-// Feeds a word where there is room.
-fn feed<D: Digest>(digest: &mut D, word: u32)
-    requires { D.count digest.old < 65536 }
-    ensures { Fed D.meaning (D.state digest.old) (D.count digest.old) (word ∷ []) (D.state digest.new) (D.count digest.new) }
-{
-    match digest.feed(word) {
-        Ok(()) => {}
-        Err(_) => unreachable(),
-    }
-}
 
 // Feeds the words of a page.
 fn feed_page<M: Memory, D: Digest>(digest: &mut D, memory: &mut M, frame: u8)
@@ -28,7 +17,7 @@ fn feed_page<M: Memory, D: Digest>(digest: &mut D, memory: &mut M, frame: u8)
     let start = 64 * frame as usize;
     for offset in 0..64 {
         if let Ok(word) = memory.read(start + offset) {
-            feed(digest, word);
+            put(digest, word);
         }
     }
 }
@@ -46,7 +35,7 @@ fn feed_entry<M: Memory, D: Digest>(
     ensures same { M.words memory.new ≡ M.words memory.old }
 {
     let measured = board.entry(number, page.into());
-    feed(digest, measured.permission.into());
+    put(digest, measured.permission.into());
     if measured.permission != 0 {
         feed_page(digest, memory, measured.frame);
     }
@@ -85,9 +74,9 @@ pub fn measure<M: Memory, D: Digest>(
 {
     let measured = board.enclave(number);
     digest.clear();
-    feed(digest, measured.first.into());
-    feed(digest, measured.count.into());
-    feed(digest, measured.entrypoint.into());
+    put(digest, measured.first.into());
+    put(digest, measured.count.into());
+    put(digest, measured.entrypoint.into());
     if let Some(range) = Range::new(measured.first, measured.count) {
         feed_range(digest, memory, board, number, range);
     }
