@@ -1,1 +1,1 @@
-mod Pushes
+mod Hex
