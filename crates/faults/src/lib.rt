@@ -21,10 +21,11 @@ pub enum ReadFault {
 }
 
 impl ReadFault {
-    // The number of the question that was answered no: by a match, since variants with fields have no numbers of their own.
+    // The number of the question that was answered no.
     pub fn number(self) -> u32
         ensures { result ≡ fault_number self }
     {
+        // A match, since variants with fields have no discriminants to cast.
         match self {
             ReadFault::TooLong => 9,
             ReadFault::UnknownKind { .. } => 10,
