@@ -1,5 +1,5 @@
 use Rattle.std.proofs.Common.{List, ◌++◌, ℕ, string_bytes, sym, ap, ◌∙◌, append-nil}
-use Rattle.logs.proofs.Pushes.{lines_over}
+use Rattle.logs.proofs.Ends.{lines_over}
 use Rattle.logs.proofs.push_answers.Goals as goal
 
 pub returns : goal.returns

@@ -1,4 +1,4 @@
--- Text that grows at its end.
+-- The lines of answered calls, where going over them ends.
 use Rattle.std.proofs.Common.{◌≡◌, ℕ, ◌+◌, ◌<◌, ◌≤◌, List, [], ◌∷◌, ◌++◌, map, length, get_or, drop, IfOk, Ok, Err, Result, sym, refl, ap, ◌∙◌, append_assoc, append-nil}
 use Rattle.std.proofs.Common.{subst, None, Option, Bor}
 use Rattle.std.proofs.iter.Yields.{fronts}
@@ -14,27 +14,6 @@ use Rattle.board.specs.declared.Answer.{Answer}
 use Rattle.board.specs.declared.Call.{Call}
 use Rattle.board.specs.Answers.{Reply, reply_of}
 use Rattle.logs.specs.Text.{hex, words_text, answer_lines}
-
--- one byte more, before what follows
-pub before : (b c : List ℕ) (d : ℕ) (xs : List ℕ) → c ≡ b ++ (d ∷ []) → c ++ xs ≡ b ++ (d ∷ xs)
-before b c d xs e = ap (λ (z : List ℕ). z ++ xs) e ∙ append_assoc b (d ∷ []) xs
-
--- what holds where a result is there
-pub made_to : {X E : Type 0} {P Q : X → Type 0} (r : Result X E) → ((x : X) → P x → Q x) → IfOk r P → IfOk r Q
-made_to (Ok x) f p = f x p
-made_to (Err e) f p = tt
-
--- a turn of the loop over the words: a space and a word more
-pub one_more : (b c d all : List ℕ) (ws : List ℕ) (i : ℕ) → i < length ws → c ≡ b ++ (32 ∷ []) → d ≡ c ++ hex (get_or ws i 0) → b ++ words_text (drop i ws) ≡ all → d ++ words_text (drop (i + 1) ws) ≡ all
-one_more b c d all ws i h p q inv =
-    ap (λ (z : List ℕ). z ++ words_text (drop (i + 1) ws)) q
-    ∙ append_assoc c (hex (get_or ws i 0)) (words_text (drop (i + 1) ws))
-    ∙ before b c 32 (hex (get_or ws i 0) ++ words_text (drop (i + 1) ws)) p
-    ∙ ap (λ (z : List ℕ). b ++ words_text z) (sym (drop_more ws i 0 h))
-    ∙ inv
-
-pub no_more : (b all : List ℕ) (ws : List ℕ) (i : ℕ) → length ws ≤ i → b ++ words_text (drop i ws) ≡ all → b ≡ all
-no_more b all ws i h inv = sym (append-nil b) ∙ ap (λ (z : List ℕ). b ++ z) (sym (at_drop_all words_text ws i h)) ∙ inv
 
 -- no line where places, calls or answers are at their end
 lines_none : (ps : List ℕ) (cs : List Call) → answer_lines ps cs [] ≡ []
