@@ -8,41 +8,16 @@ ghost use Rattle.digest.specs.Numbers.{fault_number};
 ghost use Rattle.std.proofs.Common.{rules, arith};
 
 // Why a word or a text is declined: more than 65,536 words in all.
-#[derive(Clone, Copy)]
+#[derive(Clone, Copy, PartialEq, Eq)]
 pub enum Fault {
-    Full,
+    Full = 13,
 }
 
 impl Fault {
     pub fn number(self) -> u32
         ensures { result ≡ fault_number self }
     {
-        match self {
-            Fault::Full => 13,
-        }
-    }
-}
-
-// A number of words that a type states.
-pub trait Length: Sized {
-    ghost words: { ℕ };
-
-    fn words(self) -> usize
-        ensures { result ≡ words };
-}
-
-// The number of words N: no value of this type holds another.
-pub struct Words<const N: usize> {
-    pub count: usize,
-    ghost ok: { count ≡ N },
-}
-
-impl<const N: usize> Length for Words<N> {
-    ghost words = { N };
-
-    fn words(self) -> usize {
-        let Words { count } = self;
-        count
+        self as u32
     }
 }
 
@@ -54,11 +29,10 @@ pub trait Digest: Sized {
 
     ghost count: { Self → ℕ };
 
-    // The type of the block length: its values state one number of words.
-    type Block: Length;
-
     // The block length in words.
-    const BLOCK: Self::Block;
+    const BLOCK: usize;
+
+    ghost BLOCK: { ℕ };
 
     // Forgets the words fed.
     fn clear(&mut self)
@@ -74,9 +48,9 @@ pub trait Digest: Sized {
     fn result(&self) -> [u32; 8]
         ensures { result ≡ meaning.sum (state self.now) (count self.now) };
 
-    ghost block: { meaning.block ≡ Self.Block.Length.words };
+    ghost block: { meaning.block ≡ BLOCK };
 
-    ghost range: { (8 ≤ Self.Block.Length.words) × (Self.Block.Length.words ≤ 1024) };
+    ghost range: { (8 ≤ BLOCK) × (BLOCK ≤ 1024) };
 }
 
 // A digest of eight lanes, for tests: word i is turned into lane i mod 8.
@@ -106,13 +80,13 @@ impl Digest for Fold {
 
     ghost count = { λ d. d.count };
 
-    type Block = Words<16>;
+    const BLOCK: usize = 16;
 
-    const BLOCK: Words<16> = Words { count: 16 };
+    ghost BLOCK = { 16 };
 
-    ghost block = { first_of (Prim.search rules, Prim.grind (arith, Self.row.coded.inj)) };
+    ghost block = { Prim.search rules };
 
-    ghost range = { first_of (Prim.search rules, Prim.grind (arith, Self.row.coded.inj)) };
+    ghost range = { Prim.search rules };
 
     fn clear(&mut self) {
         *self = Fold::new();
@@ -139,19 +113,17 @@ const INNER: u32 = 0x36363636;
 
 const OUTER: u32 = 0x5c5c5c5c;
 
-// Feeds a word where there is room.
-fn put<D: Digest>(digest: &mut D, word: u32)
-    requires { D.count digest.old < 65536 }
-    ensures state { D.state digest.new ≡ D.meaning.next (D.state digest.old) (D.count digest.old) word }
-    ensures count { D.count digest.new ≡ D.count digest.old + 1 }
+// Feeds a word where there is room, and else changes nothing.
+pub fn put<D: Digest>(digest: &mut D, word: u32)
+    ensures state { D.count digest.old < 65536 → D.state digest.new ≡ D.meaning.next (D.state digest.old) (D.count digest.old) word }
+    ensures count { D.count digest.old < 65536 → D.count digest.new ≡ D.count digest.old + 1 }
+    ensures full { 65536 ≤ D.count digest.old → digest.new ≡ digest.old }
 {
-    match digest.feed(word) {
-        Ok(()) => {}
-        Err(_) => unreachable(),
-    }
+    let _ = digest.feed(word);
 }
 
 // Feeds every word of a slice.
+#[tactic(auto, using(crate::proofs::Feeds::fed_take))]
 fn put_all<D: Digest>(digest: &mut D, words: &[u32])
     requires { D.count digest.old + length words.now ≤ 65536 }
     ensures state { D.state digest.new ≡ fed D.meaning (D.state digest.old) (D.count digest.old) words.now }
@@ -163,19 +135,23 @@ fn put_all<D: Digest>(digest: &mut D, words: &[u32])
 }
 
 // Clears the digest and feeds one block: the key, filled with zeros, under a mask.
+#[tactic(auto, using(crate::proofs::Feeds::fed_key, crate::proofs::Feeds::fed_zero, crate::proofs::Feeds::length_keyed))]
 fn put_key<D: Digest>(digest: &mut D, key: &[u32; 8], mask: u32)
     ensures state { D.state digest.new ≡ fed D.meaning D.meaning.first 0 (keyed D.meaning.block key.now mask) }
     ensures count { D.count digest.new ≡ D.meaning.block }
+    ensures block { length (keyed D.meaning.block key.now mask) ≡ D.meaning.block }
 {
     digest.clear();
-    let block = D::BLOCK.words();
-    for i in 0..block {
-        let word = if i < 8 { key[i] } else { 0 };
-        put(digest, word ^ mask);
+    for word in key {
+        put(digest, *word ^ mask);
+    }
+    for _ in key.len()..D::BLOCK {
+        put(digest, mask);
     }
 }
 
 // The outer half of HMAC, over what was fed so far; leaves the digest cleared.
+#[tactic(auto, using(crate::proofs::Feeds::hash_append))]
 fn close<D: Digest>(digest: &mut D, key: &[u32; 8]) -> [u32; 8]
     ensures tag { result ≡ hash D.meaning (keyed D.meaning.block key.now 0x5c5c5c5c ++ D.meaning.sum (D.state digest.old) (D.count digest.old)) }
     ensures state { D.state digest.new ≡ D.meaning.first }
@@ -191,12 +167,13 @@ fn close<D: Digest>(digest: &mut D, key: &[u32; 8]) -> [u32; 8]
 
 // HMAC of the text under the key; leaves the digest cleared, since its state would tell of the key.
 // Declined exactly when a block and the text have more than 65,536 words, and then nothing has changed.
+#[tactic(auto, using(crate::proofs::Feeds::hash_append))]
 pub fn hmac<D: Digest>(digest: &mut D, key: &[u32; 8], text: &[u32]) -> Result<[u32; 8], Fault>
     ensures answer { elim result [ Ok tag ↦ (D.meaning.block + length text.now ≤ 65536) × (tag ≡ hmac D.meaning key.now text.now) | Err e ↦ (fault_number e ≡ 13) × (65536 < D.meaning.block + length text.now) ] }
     ensures state { elim result [ Ok _ ↦ D.state digest.new ≡ D.meaning.first | Err _ ↦ digest.new ≡ digest.old ] }
     ensures count { elim result [ Ok _ ↦ D.count digest.new ≡ 0 | Err _ ↦ digest.new ≡ digest.old ] }
 {
-    if text.len() > 65536 - D::BLOCK.words() {
+    if text.len() > 65536 - D::BLOCK {
         return Err(Fault::Full);
     }
     put_key(digest, key, INNER);
@@ -205,6 +182,7 @@ pub fn hmac<D: Digest>(digest: &mut D, key: &[u32; 8], text: &[u32]) -> Result<[
 }
 
 // The tag of a measurement and one word, under a key: HMAC of the nine words.
+#[tactic(auto, using(crate::proofs::Feeds::hash_push))]
 pub fn tag<D: Digest>(digest: &mut D, key: &[u32; 8], measurement: &[u32; 8], word: u32) -> [u32; 8]
     ensures tag { result ≡ hmac D.meaning key.now (measurement.now ++ word ∷ []) }
     ensures state { D.state digest.new ≡ D.meaning.first }

@@ -1,7 +1,7 @@
 // The compression function of SHA-256: FIPS 180-4, 6.2.2.
 ghost use Rattle.std.specs.Prelude.{◌≡◌, ℕ, ◌+◌, ◌-◌, ◌<◌, ◌≤◌, length};
 ghost use Rattle.sha256.specs.Functions.{ch, maj, Σ0, Σ1, σ0, σ1};
-ghost use Rattle.sha256.specs.Compression.{word_at, working, t1, t2, round, added, compressed};
+ghost use Rattle.sha256.specs.Compression.{word_at, working, t1, t2, round, rounds, added, compressed};
 
 const K: [u32; 64] = [
     0x428a2f98, 0x71374491, 0xb5c0fbcf, 0xe9b5dba5, 0x3956c25b, 0x59f111f1, 0x923f82a4, 0xab1c5ed5,
@@ -64,6 +64,7 @@ fn small1(x: u32) -> u32
 }
 
 // The word of the schedule at t, from the words before it.
+#[tactic(auto, unfolding(crate::specs::Compression::word_at))]
 fn next_word(w: &[u32; 64], t: usize) -> u32
     requires { (16 ≤ t) × (t < 64) }
     ensures { result ≡ word_at w.now t }
@@ -78,18 +79,20 @@ fn next_word(w: &[u32; 64], t: usize) -> u32
 fn begin(hash: &[u32; 8]) -> Working
     ensures { result ≡ working hash.now }
 {
+    let [a, b, c, d, e, f, g, h] = *hash;
     Working {
-        a: hash[0],
-        b: hash[1],
-        c: hash[2],
-        d: hash[3],
-        e: hash[4],
-        f: hash[5],
-        g: hash[6],
-        h: hash[7],
+        a,
+        b,
+        c,
+        d,
+        e,
+        f,
+        g,
+        h,
     }
 }
 
+#[tactic(auto, unfolding(crate::specs::Compression::t1))]
 fn temp1(v: Working, k: u32, w: u32) -> u32
     ensures { result ≡ t1 v k w }
 {
@@ -99,6 +102,7 @@ fn temp1(v: Working, k: u32, w: u32) -> u32
         .wrapping_add(w)
 }
 
+#[tactic(auto, unfolding(crate::specs::Compression::t2))]
 fn temp2(v: Working) -> u32
     ensures { result ≡ t2 v }
 {
@@ -106,6 +110,7 @@ fn temp2(v: Working) -> u32
 }
 
 // One round.
+#[tactic(auto, unfolding(crate::specs::Compression::round))]
 fn turn(v: Working, k: u32, w: u32) -> Working
     ensures { result ≡ round v k w }
 {
@@ -123,7 +128,20 @@ fn turn(v: Working, k: u32, w: u32) -> Working
     }
 }
 
+// The working variables after the first sixteen rounds, which take the block's own words.
+#[tactic(auto, using(crate::proofs::Steps::rounds_none))]
+fn first_rounds(hash: &[u32; 8], block: &[u32; 16]) -> Working
+    ensures { result ≡ rounds 16 block.now (working hash.now) }
+{
+    let mut v = begin(hash);
+    for (k, word) in K.iter().zip(block) {
+        v = turn(v, *k, *word);
+    }
+    v
+}
+
 // Adds the working variables to the hash value.
+#[tactic(auto, unfolding(crate::specs::Compression::added))]
 fn end(hash: &mut [u32; 8], v: Working)
     ensures { hash.new ≡ added hash.old v }
 {
@@ -139,20 +157,18 @@ fn end(hash: &mut [u32; 8], v: Working)
     ];
 }
 
-// The hash value after one block. A word of the schedule is made in the round that takes it.
+// The hash value after one block. A later word of the schedule is made in the round that takes it.
+#[tactic(auto, unfolding(crate::specs::Compression::compressed))]
 pub fn compress(hash: &mut [u32; 8], block: &[u32; 16])
     ensures { hash.new ≡ compressed hash.old block.now }
 {
+    let mut v = first_rounds(hash, block);
     let mut w = [0; 64];
-    let mut v = begin(hash);
-    for i in 0..16 {
-        w[i] = block[i];
-        v = turn(v, K[i], block[i]);
-    }
+    w[..16].copy_from_slice(block);
+    // An index, since each word is made from four earlier ones.
     for t in 16..64 {
-        let word = next_word(&w, t);
-        w[t] = word;
-        v = turn(v, K[t], word);
+        w[t] = next_word(&w, t);
+        v = turn(v, K[t], w[t]);
     }
     end(hash, v);
 }

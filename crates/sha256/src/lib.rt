@@ -6,12 +6,12 @@ ghost use Rattle.digest.specs.Numbers.{fault_number};
 ghost use Rattle.sha256.specs.Functions.{start};
 ghost use Rattle.sha256.specs.Message.{sha256};
 ghost use Rattle.sha256.specs.Stream.{none, sha_meaning, Streams};
-ghost use Rattle.std.proofs.Common.{rules, arith};
+ghost use Rattle.std.proofs.Common.{rules};
 
 mod compression;
 
 use compression::compress;
-use digest::{Digest, Fault, Words};
+use digest::{Digest, Fault};
 
 // A running SHA-256: the hash value after the whole blocks, the block in hand, and the number of words fed.
 #[derive(Clone, Copy)]
@@ -46,13 +46,13 @@ impl Digest for Sha256 {
 
     ghost count = { λ d. d.count };
 
-    type Block = Words<16>;
+    const BLOCK: usize = 16;
 
-    const BLOCK: Words<16> = Words { count: 16 };
+    ghost BLOCK = { 16 };
 
-    ghost block = { first_of (Prim.search rules, Prim.grind (arith, Self.row.coded.inj)) };
+    ghost block = { Prim.search rules };
 
-    ghost range = { first_of (Prim.search rules, Prim.grind (arith, Self.row.coded.inj)) };
+    ghost range = { Prim.search rules };
 
     fn clear(&mut self) {
         *self = Sha256::new();
@@ -91,6 +91,7 @@ impl Digest for Sha256 {
 
 // The standard's hash of the words, fed one by one. Declined exactly when there are more than 65,536.
 // Feeding any list of words to a cleared digest and asking for the result is the standard's hash of it.
+#[tactic(auto, using(digest::proofs::Feeds::fed_take, crate::proofs::Whole::streams))]
 pub fn hash(words: &[u32]) -> Result<[u32; 8], Fault>
     ensures answer { elim result [ Ok h ↦ (length words.now ≤ 65536) × (h ≡ sha256 words.now) | Err e ↦ (fault_number e ≡ 13) × (65536 < length words.now) ] }
     ensures streams { Streams }

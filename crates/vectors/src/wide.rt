@@ -4,7 +4,7 @@ ghost use Rattle.digest.specs.Fold.{zeros};
 ghost use Rattle.vectors.specs.Wide.{wide_meaning};
 ghost use Rattle.std.proofs.Common.{rules};
 
-use digest::{Digest, Fault, Fold, Words};
+use digest::{Digest, Fault, Fold};
 
 #[derive(Clone, Copy)]
 pub struct WideFold {
@@ -27,9 +27,9 @@ impl Digest for WideFold {
 
     ghost count = { λ d. d.fold.count };
 
-    type Block = Words<34>;
+    const BLOCK: usize = 34;
 
-    const BLOCK: Words<34> = Words { count: 34 };
+    ghost BLOCK = { 34 };
 
     ghost block = { Prim.search rules };
 

@@ -1,9 +1,10 @@
-use Rattle.std.proofs.Common.{◌≡◌, ◌+◌, drop}
+use Rattle.std.proofs.Common.{◌≡◌, ◌+◌, take}
 use Rattle.digest.specs.Meaning.{fed}
 use Rattle.digest.proofs.put_all.Given as goal
 
 abbrev pub invariant-loop-w : goal.invariant-loop-w
 invariant-loop-w g l =
-    let m = g.D.Digest in
-    (m.count l.digest ≡ m.count l.initial.digest + l.w-index)
-    × (fed m.meaning (m.state l.digest) (m.count l.digest) (drop l.w-index l.words) ≡ fed m.meaning (m.state l.initial.digest) (m.count l.initial.digest) l.words)
+    let d = g.D.Digest in record {
+      count : d.count l.digest ≡ d.count l.initial.digest + l.w-index;
+      state : d.state l.digest ≡ fed d.meaning (d.state l.initial.digest) (d.count l.initial.digest) (take l.w-index l.words);
+    }
