@@ -1,5 +1,6 @@
 -- Runs of calls of all seventeen kinds, from a new monitor on.
-use Rattle.std.specs.Prelude.{◌≡◌, ℕ, List, map, vec_items, MatchResult}
+use Rattle.std.specs.Prelude.{◌≡◌, ℕ, List, map, Vec, vec_items, MatchResult}
+use Rattle.std.specs.declared.alloc.Global.{Global}
 use Rattle.memory.specs.declared.Memory
 use Rattle.digest.specs.declared.Digest
 use Rattle.board.specs.declared.Answer.{Answer}
@@ -35,5 +36,5 @@ pub record RanNew {M D B : Type 0} (m : Memory.Ghosts M) (d : Digest.Ghosts D B)
   pub states_are : map (state_of m) monitors ≡ states (events m d key memory cs)
 
 -- the calls were made; or there was no room for their answers, and the memory is as it was
-abbrev pub EndedSo : {M D B : Type 0} → Memory.Ghosts M → Digest.Ghosts D B → List ℕ → M → List Call → Ended M → Type 0
-EndedSo m d key memory cs r = MatchResult r.answers (λ xs. RanNew m d key memory cs (vec_items xs) r.memory) (λ e. r.memory ≡ memory)
+abbrev pub EndedSo : {M D B : Type 0} → Memory.Ghosts M → Digest.Ghosts D B → List ℕ → M → List Call → Ended M (Vec Answer Global) → Type 0
+EndedSo m d key memory cs r = MatchResult r.result (λ xs. RanNew m d key memory cs (vec_items xs) r.memory) (λ e. r.memory ≡ memory)

@@ -1,5 +1,4 @@
 // Runs of calls of all seventeen kinds.
-ghost use Rattle.std.specs.Prelude.{◌≡◌};
 ghost use Rattle.runs.specs.Runs.{AddsRun};
 ghost use Rattle.runs.specs.Every.{EndedSo};
 
@@ -11,6 +10,7 @@ use monitor::Monitor;
 use std::alloc::{AllocError, Global};
 
 // Makes these calls, and adds their answers; where there is no room for the answers, no call is made.
+#[tactic(auto, using(crate::proofs::Turns::one_more, crate::proofs::Turns::stopped))]
 pub fn run<M: Memory, D: Digest>(
     monitor: &mut Monitor<M, D>,
     calls: &[Call],
@@ -19,41 +19,35 @@ pub fn run<M: Memory, D: Digest>(
     ensures { AddsRun M.Memory D.meaning calls.now monitor.old answers.old.items result monitor.new answers.new.items }
 {
     answers.reserve(calls.len())?;
-    for made in calls {
-        let answer = make(monitor, *made);
-        answers.push_reserved(answer);
+    for call in calls {
+        answers.push_reserved(make(monitor, *call));
     }
     Ok(())
 }
 
-// A run that is over: the memory as the calls left it, and their answers. Where there was no room for the answers, no
-// call was made.
+// A run that is over: the memory as the calls left it, and what came of it, unless memory was wanting for that.
 #[derive(Drop)]
-pub struct Ended<M> {
+pub struct Ended<M, T> {
     pub memory: M,
-    pub answers: Result<Vec<Answer>, AllocError>,
+    pub result: Result<T, AllocError>,
 }
 
-// Makes these calls to a new monitor over this memory, and gives the memory back.
+// Makes these calls to a new monitor over this memory, and gives the memory back with their answers. Where there was no
+// room for the answers, no call was made.
 pub fn run_new<M: Memory, D: Digest + Drop>(
     heap: Global,
     memory: M,
     digest: D,
     key: [u32; 8],
     calls: &[Call],
-) -> Ended<M>
+) -> Ended<M, Vec<Answer>>
     ensures { EndedSo M.Memory D.Digest key memory calls.now result }
 {
     let mut monitor = Monitor::new(memory, digest, key);
     let mut answers = Vec::new(heap);
-    match run(&mut monitor, calls, &mut answers) {
-        Ok(()) => Ended {
-            memory: monitor.into_memory(),
-            answers: Ok(answers),
-        },
-        Err(error) => Ended {
-            memory: monitor.into_memory(),
-            answers: Err(error),
-        },
+    let result = run(&mut monitor, calls, &mut answers).map(|()| answers);
+    Ended {
+        memory: monitor.into_memory(),
+        result,
     }
 }

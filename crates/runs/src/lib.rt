@@ -1,9 +1,8 @@
 // Calls made to a monitor one after another.
 #![tactic(auto)]
 
-ghost use Rattle.std.specs.Prelude.{◌≡◌};
 ghost use Rattle.board.specs.declared.Call.TheVariants.{Attest};
-ghost use Rattle.board.specs.Answers.{reply_by, reply_of, no_words, one_word, entry_words};
+ghost use Rattle.board.specs.Answers.{reply_by, reply_of};
 ghost use Rattle.monitor.specs.Gate.{Does};
 ghost use Rattle.runs.specs.Runs.{Answered, AddsRun, heeded};
 
@@ -15,42 +14,16 @@ use std::alloc::AllocError;
 
 pub mod every;
 
-fn done(res: Result<(), Decline>) -> Answer
-    ensures { reply_of result ≡ reply_by no_words res }
-{
-    match res {
-        Ok(()) => Answer::Done,
-        Err(decline) => Answer::Declined(decline),
-    }
-}
-
-fn word(res: Result<u32, Decline>) -> Answer
-    ensures { reply_of result ≡ reply_by one_word res }
-{
-    match res {
-        Ok(word) => Answer::Word(word),
-        Err(decline) => Answer::Declined(decline),
-    }
-}
-
-fn mapped(res: Result<Entry, Decline>) -> Answer
-    ensures { reply_of result ≡ reply_by entry_words res }
-{
-    match res {
-        Ok(entry) => Answer::Mapped(entry),
-        Err(decline) => Answer::Declined(decline),
-    }
-}
-
-// Attest, with the sixteen words in the answer.
-fn attested<M: Memory, D: Digest>(monitor: &mut Monitor<M, D>, word: u32) -> Answer
-    ensures { Does M.Memory D.meaning (Attest word) monitor.old (reply_of result) monitor.new }
+// Attest, with the sixteen words that it writes.
+fn attested<M: Memory, D: Digest>(
+    monitor: &mut Monitor<M, D>,
+    word: u32,
+) -> Result<[u32; 16], Decline>
+    ensures { Does M.Memory D.meaning (Attest word) monitor.old (reply_by (λ words. words) result) monitor.new }
 {
     let mut words = [0; 16];
-    match monitor.attest(word, &mut words) {
-        Ok(()) => Answer::Attested(words),
-        Err(decline) => Answer::Declined(decline),
-    }
+    monitor.attest(word, &mut words)?;
+    Ok(words)
 }
 
 // One call, whichever it is, attest too.
@@ -63,33 +36,33 @@ pub fn make<M: Memory, D: Digest>(monitor: &mut Monitor<M, D>, call: Call) -> An
             first,
             count,
             entrypoint,
-        } => done(monitor.open(enclave, first, count, entrypoint)),
+        } => monitor.open(enclave, first, count, entrypoint).into(),
         Call::Add {
             enclave,
             page,
             frame,
             permission,
-        } => done(monitor.add(enclave, page, frame, permission)),
-        Call::Finish { enclave } => done(monitor.finish(enclave)),
-        Call::Abandon { enclave } => done(monitor.abandon(enclave)),
-        Call::Destroy { enclave } => done(monitor.destroy(enclave)),
-        Call::Enter { enclave } => done(monitor.enter(enclave)),
-        Call::Resume { enclave } => done(monitor.resume(enclave)),
-        Call::Exit => done(monitor.exit()),
-        Call::Pause => done(monitor.pause()),
-        Call::Load { address } => word(monitor.load(address)),
-        Call::Store { address, word } => done(monitor.store(address, word)),
-        Call::Fetch { address } => word(monitor.fetch(address)),
-        Call::ReadRegister { number } => word(monitor.read_register(number)),
-        Call::WriteRegister { number, word } => done(monitor.write_register(number, word)),
-        Call::ReadMap { party, page } => mapped(monitor.read_map(party, page)),
+        } => monitor.add(enclave, page, frame, permission).into(),
+        Call::Finish { enclave } => monitor.finish(enclave).into(),
+        Call::Abandon { enclave } => monitor.abandon(enclave).into(),
+        Call::Destroy { enclave } => monitor.destroy(enclave).into(),
+        Call::Enter { enclave } => monitor.enter(enclave).into(),
+        Call::Resume { enclave } => monitor.resume(enclave).into(),
+        Call::Exit => monitor.exit().into(),
+        Call::Pause => monitor.pause().into(),
+        Call::Load { address } => monitor.load(address).into(),
+        Call::Store { address, word } => monitor.store(address, word).into(),
+        Call::Fetch { address } => monitor.fetch(address).into(),
+        Call::ReadRegister { number } => monitor.read_register(number).into(),
+        Call::WriteRegister { number, word } => monitor.write_register(number, word).into(),
+        Call::ReadMap { party, page } => monitor.read_map(party, page).into(),
         Call::WriteMap {
             party,
             page,
             frame,
             permission,
-        } => done(monitor.write_map(party, page, frame, permission)),
-        Call::Attest { word } => attested(monitor, word),
+        } => monitor.write_map(party, page, frame, permission).into(),
+        Call::Attest { word } => attested(monitor, word).into(),
     }
 }
 
@@ -112,12 +85,9 @@ pub fn run<M: Memory, D: Digest>(
 ) -> Result<(), AllocError>
     ensures { AddsRun M.Memory D.meaning (heeded calls.now) monitor.old answers.old.items result monitor.new answers.new.items }
 {
-    answers.reserve(calls.len())?;
-    for made in calls {
-        let Some(answer) = call(monitor, *made) else {
-            return Ok(());
-        };
-        answers.push_reserved(answer);
-    }
-    Ok(())
+    let made = calls
+        .iter()
+        .position(|call| matches!(call, Call::Attest { .. }))
+        .unwrap_or(calls.len());
+    every::run(monitor, &calls[..made], answers)
 }
