@@ -9,9 +9,9 @@ use Rattle.board.specs.Beside.{KeptApart}
 use Rattle.files.specs.Files.{calls_of, IsFiled}
 use Rattle.files.specs.Files.{all_filed}
 use Rattle.runs.specs.Every.{events, RanNew}
+use Rattle.runs.specs.declared.every.Ended.{Ended}
 use Rattle.compare.specs.declared.replay.Answered.{Answered}
-use Rattle.compare.specs.declared.replay.Replayed.{Replayed}
-use Rattle.compare.specs.declared.replay.ComparedFiles.{ComparedFiles}
+use Rattle.compare.specs.declared.Pair.{Pair}
 
 -- the calls of a file before its first fault
 abbrev pub calls_in : List ℕ → List Call
@@ -27,16 +27,16 @@ pub record AnsweredSo {M D B : Type 0} (m : Memory.Ghosts M) (d : Digest.Ghosts 
   pub ran : RanNew m d key memory (calls_in bs) (vec_items a.answers) after
 
 -- the calls of the file were made; or memory was wanting, and the memory of the board is as it was
-abbrev pub ReplayedSo : {M D B : Type 0} → Memory.Ghosts M → Digest.Ghosts D B → List ℕ → M → List ℕ → Replayed M → Type 0
-ReplayedSo m d key memory bs r = MatchResult r.answered (λ a. AnsweredSo m d key memory bs a r.memory) (λ e. r.memory ≡ memory)
+abbrev pub ReplayedSo : {M D B : Type 0} → Memory.Ghosts M → Digest.Ghosts D B → List ℕ → M → List ℕ → Ended M Answered → Type 0
+ReplayedSo m d key memory bs r = MatchResult r.result (λ a. AnsweredSo m d key memory bs a r.memory) (λ e. r.memory ≡ memory)
 
-pub record Replays {M D B : Type 0} (m : Memory.Ghosts M) (d : Digest.Ghosts D B) (key : List ℕ) (memory : M) (bs : List ℕ) (r : Replayed M) : Type 0 where
+pub record Replays {M D B : Type 0} (m : Memory.Ghosts M) (d : Digest.Ghosts D B) (key : List ℕ) (memory : M) (bs : List ℕ) (r : Ended M Answered) : Type 0 where
   -- the answers, and the states after each call, are those of the bare board's events
   pub ran : ReplayedSo m d key memory bs r
   -- and of these events beside those of any other file, begun on any words: what others cannot tell, what disturbs no life
   pub apart : (others cs : List ℕ) → KeptApart d.meaning key (m.words memory) others (file_events m d key memory bs) (run d.meaning key (start others) (calls_in cs))
 
-pub record ComparesFiles {M N D B : Type 0} (m : Memory.Ghosts M) (n : Memory.Ghosts N) (d : Digest.Ghosts D B) (key : List ℕ) (left : M) (right : N) (bs cs : List ℕ) (r : ComparedFiles M N) : Type 0 where
+pub record ComparesFiles {M N D B : Type 0} (m : Memory.Ghosts M) (n : Memory.Ghosts N) (d : Digest.Ghosts D B) (key : List ℕ) (left : M) (right : N) (bs cs : List ℕ) (r : Pair (Ended M Answered) (Ended N Answered)) : Type 0 where
   pub left_ran : ReplayedSo m d key left bs r.left
   pub right_ran : ReplayedSo n d key right cs r.right
   pub apart : KeptApart d.meaning key (m.words left) (n.words right) (file_events m d key left bs) (file_events n d key right cs)

@@ -4,7 +4,7 @@
 
 ghost use Rattle.compare.specs.Compares.{Compares};
 
-use board::Call;
+use board::{Answer, Call};
 use digest::Digest;
 use memory::Memory;
 use runs::every::{Ended, run_new};
@@ -12,27 +12,32 @@ use std::alloc::Global;
 
 pub mod replay;
 
+// What there is of each of two runs.
 #[derive(Drop)]
-pub struct Compared<M, N> {
-    pub left: Ended<M>,
-    pub right: Ended<N>,
+pub struct Pair<L, R> {
+    pub left: L,
+    pub right: R,
+}
+
+// One of two runs: the memory and the digest of its new monitor, and what it makes.
+#[derive(Drop)]
+pub struct Side<'r, M, D, T> {
+    pub memory: M,
+    pub digest: D,
+    pub run: &'r [T],
 }
 
 // Makes two lists of calls to two new monitors with one key, and gives their answers and the memories.
 pub fn compare<M: Memory, N: Memory, D: Digest + Drop>(
     heap: Global,
-    left: M,
-    right: N,
-    left_digest: D,
-    right_digest: D,
     key: [u32; 8],
-    left_calls: &[Call],
-    right_calls: &[Call],
-) -> Compared<M, N>
-    ensures { Compares M.Memory N.Memory D.Digest key left right left_calls.now right_calls.now result }
+    left: Side<M, D, Call>,
+    right: Side<N, D, Call>,
+) -> Pair<Ended<M, Vec<Answer>>, Ended<N, Vec<Answer>>>
+    ensures { Compares M.Memory N.Memory D.Digest key left.entry.memory right.entry.memory left.entry.run.now right.entry.run.now result }
 {
-    Compared {
-        left: run_new(heap, left, left_digest, key, left_calls),
-        right: run_new(heap, right, right_digest, key, right_calls),
+    Pair {
+        left: run_new(heap, left.memory, left.digest, key, left.run),
+        right: run_new(heap, right.memory, right.digest, key, right.run),
     }
 }

@@ -6,5 +6,5 @@ returns g c =
     record {
       left_ran = c.run_new.ensures;
       right_ran = c.run_new-2.ensures;
-      apart = kept_apart g.D.Digest.meaning c.args.key (g.M.Memory.words c.args.left) (g.N.Memory.words c.args.right) c.args.left_calls.now c.args.right_calls.now;
+      apart = kept_apart g.D.Digest.meaning c.args.key (g.M.Memory.words c.args.left.memory) (g.N.Memory.words c.args.right.memory) c.args.left.run.now c.args.right.run.now;
     }

@@ -7,5 +7,5 @@ returns g c =
     record {
       left_ran = c.run_file.ensures.ran;
       right_ran = c.run_file-2.ensures.ran;
-      apart = kept_apart g.D.Digest.meaning c.args.key (g.M.Memory.words c.args.left) (g.N.Memory.words c.args.right) (calls_in c.args.left_bytes.now) (calls_in c.args.right_bytes.now);
+      apart = kept_apart g.D.Digest.meaning c.args.key (g.M.Memory.words c.args.left.memory) (g.N.Memory.words c.args.right.memory) (calls_in c.args.left.run.now) (calls_in c.args.right.run.now);
     }
