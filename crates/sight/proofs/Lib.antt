@@ -1,6 +1,5 @@
 pub mod Watching
-mod Marking
 pub mod Same
-mod Placing
 pub mod Apart
 mod Verdicts
+mod Placing

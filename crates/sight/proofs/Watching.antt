@@ -9,6 +9,7 @@ use Rattle.board.specs.declared.Call.TheVariants.{Open, Add, Finish, Abandon, De
 use Rattle.board.specs.State.{State, absent, fresh, start, enclave_of, covers, page_of}
 use Rattle.board.specs.Questions.{is_enclave_number, decision}
 use Rattle.board.specs.Effects.{Outcome, with_enclave, effect}
+use Rattle.board.specs.Answers.{Reply}
 use Rattle.board.specs.Steps.{step, event, run, replies}
 use Rattle.board.specs.Kinds.{Kind, destroying, entering, resuming, leaving, accessing, plain, kind_of}
 use Rattle.board.specs.Sight.{outward_kind, inward}
@@ -18,7 +19,7 @@ use Rattle.board.proofs.Orderly.{enclave_after}
 use Rattle.board.proofs.Sound.{Shape, Inv, start_inv}
 use Rattle.board.proofs.Subject.{step_inv}
 use Rattle.sight.specs.declared.watch.Watch.{Watch}
-use Rattle.sight.specs.Marks.{at_start, with_range, inward_kind, is_inward_to, accepted_by, next_of, marks_from}
+use Rattle.sight.specs.Marks.{at_start, with_range, inward_kind, is_inward_to, accepted_by, next_of, marks_from, TellsInwardCalls}
 
 -- the watch has the range of this record
 abbrev pub Ranged : Watch → Enclave → Type 0
@@ -28,7 +29,7 @@ Ranged w r = (w.first ≡ r.first) × (w.count ≡ r.count)
 abbrev pub Agrees : ℕ → Watch → Board → Type 0
 Agrees e w b = (w.running ≡ b.running) × Ranged w (enclave_of b e)
 
-pub start_agrees : (e : ℕ) → Agrees e at_start fresh
+start_agrees : (e : ℕ) → Agrees e at_start fresh
 start_agrees e =
     (refl, cond_both (eqb e 0) absent (get_or (replicate 8 absent) (e - 1) absent) (Ranged at_start) (λ _. (refl, refl)) (λ _. replicated (Ranged at_start) 8 (e - 1) absent absent (refl, refl) (refl, refl)))
 
@@ -114,13 +115,18 @@ module _ (h : Meaning) (key : List ℕ) (e : ℕ) (w : Watch) (s : State) (i : S
 
 -- ---- a run
 
-pub marks_tell : (h : Meaning) (key : List ℕ) (e : ℕ) (cs more : List Call) (w : Watch) (s : State) → Inv s → Agrees e w s.board
+marks_tell : (h : Meaning) (key : List ℕ) (e : ℕ) (cs more : List Call) (w : Watch) (s : State) → Inv s → Agrees e w s.board
     → marks_from e w (cs ++ more) (replies (run h key s cs)) ≡ map (inward e) (run h key s cs)
 marks_tell h key e [] more w s i a = refl
 marks_tell h key e (c ∷ cs) more w s i a =
     ap₂ (λ (m : Bool) (ms : List Bool). m ∷ ms) (tells h key e w s i.shape a c)
     (marks_tell h key e cs more (next_of e w c (step h key c s).reply) (step h key c s).state (step_inv h key c s i) (next_agrees h key e w s i.shape a c))
 
-pub run_marks_tell : (h : Meaning) (key words : List ℕ) (e : ℕ) (cs more : List Call)
-    → marks_from e at_start (cs ++ more) (replies (run h key (start words) cs)) ≡ map (inward e) (run h key (start words) cs)
-run_marks_tell h key words e cs more = marks_tell h key e cs more at_start (start words) (start_inv words) (start_agrees e)
+-- where no calls are left, no marks are
+pub no_calls_left : (e : ℕ) (w : Watch) (rs : List Reply) → marks_from e w [] rs ≡ []
+no_calls_left e w [] = refl
+no_calls_left e w (r ∷ rs) = refl
+
+pub inward_calls_told : (h : Meaning) (e : ℕ) (calls : List Call) (answers : List Reply) (marks : List Bool) → marks ≡ marks_from e at_start calls answers → TellsInwardCalls h e calls answers marks
+inward_calls_told h e calls answers marks all key words cs more p q =
+    all ∙ ap₂ (marks_from e at_start) p q ∙ marks_tell h key e cs more at_start (start words) (start_inv words) (start_agrees e)

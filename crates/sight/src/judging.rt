@@ -8,8 +8,8 @@ ghost use Rattle.sight.specs.Judged.{Judged};
 
 use crate::answers::first_told_apart;
 use crate::calls::first_other_call;
-use crate::watch::inward_marks;
-use board::*;
+use crate::places::Marked;
+use crate::watch::{Run, inward_marks};
 use digest::Digest;
 use std::alloc::{AllocError, Global};
 
@@ -27,23 +27,22 @@ pub struct Verdict {
 pub fn judge_runs<D: Digest>(
     heap: Global,
     enclave: u8,
-    left: &[Call],
-    left_answers: &[Answer],
-    right: &[Call],
-    right_answers: &[Answer],
+    left: Run,
+    right: Run,
 ) -> Result<Verdict, AllocError>
-    ensures other { IfOk result (λ v. v.other ≡ first_place_apart same_or_inward left.now v.left.items right.now v.right.items) }
-    ensures told { IfOk result (λ v. v.told ≡ first_place_apart same_told left_answers.now v.left.items right_answers.now v.right.items) }
-    ensures judged { IfOk result (Judged D.meaning enclave left.now (map reply_of left_answers.now) right.now (map reply_of right_answers.now)) }
+    ensures other { IfOk result (λ v. v.other ≡ first_place_apart same_or_inward left.entry.calls.now v.left.items right.entry.calls.now v.right.items) }
+    ensures told { IfOk result (λ v. v.told ≡ first_place_apart same_told left.entry.answers.now v.left.items right.entry.answers.now v.right.items) }
+    ensures judged { IfOk result (Judged D.meaning enclave left.entry.calls.now (map reply_of left.entry.answers.now) right.entry.calls.now (map reply_of right.entry.answers.now)) }
 {
-    let left_marks = inward_marks::<D>(heap, enclave, left, left_answers)?;
-    let right_marks = inward_marks::<D>(heap, enclave, right, right_answers)?;
-    let other = first_other_call(left, left_marks.as_slice(), right, right_marks.as_slice());
+    let left_marks = inward_marks::<D>(heap, enclave, left)?;
+    let right_marks = inward_marks::<D>(heap, enclave, right)?;
+    let other = first_other_call(
+        Marked::new(left.calls, &left_marks),
+        Marked::new(right.calls, &right_marks),
+    );
     let told = first_told_apart(
-        left_answers,
-        left_marks.as_slice(),
-        right_answers,
-        right_marks.as_slice(),
+        Marked::new(left.answers, &left_marks),
+        Marked::new(right.answers, &right_marks),
     );
     Ok(Verdict {
         left: left_marks,

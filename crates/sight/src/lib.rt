@@ -11,4 +11,5 @@ mod watch;
 pub use answers::first_told_apart;
 pub use calls::first_other_call;
 pub use judging::{Verdict, judge_runs};
-pub use watch::inward_marks;
+pub use places::Marked;
+pub use watch::{Run, inward_marks};

@@ -7,7 +7,8 @@ use board::*;
 use digest::Digest;
 use std::alloc::{AllocError, Global};
 
-// What the accepted calls of a run tell of its state: the party that runs, and the range of one enclave.
+// What the accepted calls of a run tell of its state: the party that runs, and the range of one enclave, of no pages where
+// it has none. Two numbers, since an open in a list of calls need not name a lawful range.
 #[derive(Clone, Copy)]
 struct Watch {
     running: u8,
@@ -16,6 +17,13 @@ struct Watch {
 }
 
 impl Watch {
+    // The host runs, and the enclave has no range.
+    const START: Watch = Watch {
+        running: 0,
+        first: 0,
+        count: 0,
+    };
+
     // The call is an inward one of the enclave.
     fn is_inward(self, enclave: u8, call: Call) -> bool
         ensures { result ≡ is_inward_to enclave self call }
@@ -43,18 +51,16 @@ impl Watch {
                 count,
                 ..
             } if opened == enclave => Watch {
-                running: self.running,
                 first,
                 count,
+                ..self
             },
             Call::Abandon { enclave: gone } | Call::Destroy { enclave: gone } if gone == enclave =>
-                {
-                    Watch {
-                        running: self.running,
-                        first: 0,
-                        count: 0,
-                    }
-                }
+                Watch {
+                    first: 0,
+                    count: 0,
+                    ..self
+                },
             Call::Enter { enclave: entered } | Call::Resume { enclave: entered } => Watch {
                 running: entered,
                 ..self
@@ -75,25 +81,23 @@ impl Watch {
     }
 }
 
+// A run of the gate: its calls, and what they were answered as far as it went.
+#[derive(Clone, Copy)]
+pub struct Run<'a> {
+    pub calls: &'a [Call],
+    pub answers: &'a [Answer],
+}
+
 // For each call that was answered, whether it was an inward call of the enclave.
-pub fn inward_marks<D: Digest>(
-    heap: Global,
-    enclave: u8,
-    calls: &[Call],
-    answers: &[Answer],
-) -> Result<Vec<bool>, AllocError>
-    ensures marks { IfOk result (λ v. v.items ≡ marks_from enclave at_start calls.now (map reply_of answers.now)) }
-    ensures inward { IfOk result (λ v. TellsInwardCalls D.meaning enclave calls.now (map reply_of answers.now) v.items) }
+pub fn inward_marks<D: Digest>(heap: Global, enclave: u8, run: Run) -> Result<Vec<bool>, AllocError>
+    ensures marks { IfOk result (λ v. v.items ≡ marks_from enclave at_start run.entry.calls.now (map reply_of run.entry.answers.now)) }
+    ensures inward { IfOk result (λ v. TellsInwardCalls D.meaning enclave run.entry.calls.now (map reply_of run.entry.answers.now) v.items) }
 {
     let mut marks = Vec::new(heap);
-    let mut watch = Watch {
-        running: 0,
-        first: 0,
-        count: 0,
-    };
-    for i in 0..calls.len().min(answers.len()) {
-        marks.push(watch.is_inward(enclave, calls[i]))?;
-        watch = watch.next(enclave, calls[i], answers[i]);
+    let mut watch = Watch::START;
+    for (call, answer) in run.calls.iter().zip(run.answers) {
+        marks.push(watch.is_inward(enclave, *call))?;
+        watch = watch.next(enclave, *call, *answer);
     }
     Ok(marks)
 }
