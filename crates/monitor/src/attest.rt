@@ -1,5 +1,5 @@
 // The attestation of the enclave that runs.
-ghost use Rattle.std.specs.Prelude.{◌≡◌, true, false, ◌++◌, is_ok};
+ghost use Rattle.std.specs.Prelude.{◌≡◌, true, false, is_ok};
 ghost use Rattle.board.specs.declared.Call.TheVariants.{Attest};
 ghost use Rattle.board.specs.Answers.{reply_by};
 ghost use Rattle.monitor.specs.Gate.{Does};
@@ -8,16 +8,6 @@ use crate::Monitor;
 use board::*;
 use digest::{Digest, tag};
 use memory::Memory;
-use questions::ask::may_leave;
-
-// Eight words, and then eight more.
-fn joined(front: [u32; 8], back: [u32; 8]) -> [u32; 16]
-    ensures { result ≡ front ++ back }
-{
-    let [a, b, c, d, e, f, g, h] = front;
-    let [i, j, k, l, m, n, o, p] = back;
-    [a, b, c, d, e, f, g, h, i, j, k, l, m, n, o, p]
-}
 
 impl<M: Memory, D: Digest> Monitor<M, D> {
     // Writes the measurement of the enclave that runs, and then its tag with the word, to the caller's sixteen words. A
@@ -27,10 +17,12 @@ impl<M: Memory, D: Digest> Monitor<M, D> {
         ensures kept { is_ok result ≡ false → words.new ≡ words.old }
         ensures cleared { is_ok result ≡ true → (D.state self.new.digest ≡ D.meaning.first) × (D.count self.new.digest ≡ 0) }
     {
-        may_leave(self.memory.size(), &self.board)?;
+        self.questions().may_leave()?;
         let measurement = self.board.enclave(self.board.running).measurement;
         let tag = tag(&mut self.digest, &self.key, &measurement, word);
-        *words = joined(measurement, tag);
+        let (front, back) = words.split_at_mut(8);
+        front.copy_from_slice(&measurement);
+        back.copy_from_slice(&tag);
         Ok(())
     }
 }

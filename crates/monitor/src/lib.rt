@@ -1,15 +1,15 @@
 // The gate of the board, over any memory and any digest.
 #![tactic(auto)]
 
-ghost use Rattle.std.specs.Prelude.{◌≡◌};
+ghost use Rattle.std.specs.Prelude.{◌≡◌, length};
 ghost use Rattle.board.specs.State.{start};
 ghost use Rattle.monitor.specs.Gate.{state_of};
 
 use board::Board;
 use digest::Digest;
 use memory::Memory;
+use questions::Questions;
 
-mod accesses;
 mod attest;
 mod gate;
 mod life;
@@ -35,6 +35,17 @@ impl<M: Memory, D: Digest> Monitor<M, D> {
             memory,
             digest,
             key,
+        }
+    }
+
+    // The questions to its board, over its memory.
+    fn questions(&self) -> Questions<'_>
+        ensures size { result.size ≡ length (M.words self.now.memory) }
+        ensures board { result.board.now ≡ self.now.board }
+    {
+        Questions {
+            size: self.memory.size(),
+            board: &self.board,
         }
     }
 

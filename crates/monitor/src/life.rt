@@ -1,6 +1,5 @@
 // The calls of an enclave's life.
 ghost use Rattle.std.specs.Prelude.{◌≡◌, true, is_ok, if◌then◌else◌};
-ghost use Rattle.board.specs.declared.Call.{Call};
 ghost use Rattle.board.specs.declared.Call.TheVariants.{Open, Add, Finish, Abandon, Destroy, Enter, Resume, Exit, Pause};
 ghost use Rattle.board.specs.State.{idle};
 ghost use Rattle.board.specs.Questions.{is_whole};
@@ -14,7 +13,6 @@ use digest::Digest;
 use memory::Memory;
 use pages::clear::clear_pages;
 use pages::measure::measure;
-use questions::ask::*;
 
 impl<M: Memory, D: Digest> Monitor<M, D> {
     // Makes a draft whose range is `count` pages from `first` on.
@@ -27,14 +25,9 @@ impl<M: Memory, D: Digest> Monitor<M, D> {
     ) -> Result<(), Decline>
         ensures { Does M.Memory D.meaning (Open enclave first count entrypoint) self.old (reply_by no_words result) self.new }
     {
-        let draft = may_open(
-            self.memory.size(),
-            &self.board,
-            enclave,
-            first,
-            count,
-            entrypoint,
-        )?;
+        let draft = self
+            .questions()
+            .may_open(enclave, first, count, entrypoint)?;
         self.board.set_enclave(enclave, draft);
         Ok(())
     }
@@ -43,14 +36,7 @@ impl<M: Memory, D: Digest> Monitor<M, D> {
     pub fn add(&mut self, enclave: u8, page: u8, frame: u8, permission: u8) -> Result<(), Decline>
         ensures { Does M.Memory D.meaning (Add enclave page frame permission) self.old (reply_by no_words result) self.new }
     {
-        may_add(
-            self.memory.size(),
-            &self.board,
-            enclave,
-            page,
-            frame,
-            permission,
-        )?;
+        self.questions().may_add(enclave, page, frame, permission)?;
         self.board.set_entry(
             enclave,
             page.into(),
@@ -69,7 +55,7 @@ impl<M: Memory, D: Digest> Monitor<M, D> {
         ensures does { Does M.Memory D.meaning (Finish enclave) self.old (reply_by no_words result) self.new }
         ensures cleared { is_ok result ≡ true → (D.state self.new.digest ≡ D.meaning.first) × (D.count self.new.digest ≡ 0) }
     {
-        let finished = may_finish(self.memory.size(), &self.board, enclave)?;
+        let finished = self.questions().may_finish(enclave)?;
         let measurement = measure(&mut self.digest, &mut self.memory, &self.board, enclave);
         self.board.set_enclave(
             enclave,
@@ -96,12 +82,9 @@ impl<M: Memory, D: Digest> Monitor<M, D> {
     pub fn abandon(&mut self, enclave: u8) -> Result<(), Decline>
         ensures { Does M.Memory D.meaning (Abandon enclave) self.old (reply_by no_words result) self.new }
     {
-        let _ = may_step(
-            self.memory.size(),
-            &self.board,
-            enclave,
-            Call::Abandon { enclave },
-        )?;
+        let _ = self
+            .questions()
+            .may_step(enclave, Call::Abandon { enclave })?;
         self.remove(enclave);
         Ok(())
     }
@@ -110,33 +93,33 @@ impl<M: Memory, D: Digest> Monitor<M, D> {
     pub fn destroy(&mut self, enclave: u8) -> Result<(), Decline>
         ensures { Does M.Memory D.meaning (Destroy enclave) self.old (reply_by no_words result) self.new }
     {
-        let _ = may_step(
-            self.memory.size(),
-            &self.board,
-            enclave,
-            Call::Destroy { enclave },
-        )?;
+        let _ = self
+            .questions()
+            .may_step(enclave, Call::Destroy { enclave })?;
         self.remove(enclave);
         Ok(())
+    }
+
+    // Puts an enclave, whose record becomes `started`, in the place of the host, whose context is saved.
+    fn start(&mut self, enclave: u8, started: Enclave, live: Context)
+        ensures { self.new ≡ record self.old { board = switched (with_enclave self.old.board enclave started) enclave live self.old.board.live } }
+    {
+        self.board.set_enclave(enclave, started);
+        self.board.running = enclave;
+        self.board.host = self.board.live;
+        self.board.live = live;
     }
 
     // Saves the host's context and starts an enclave at its entry address, with registers of 0.
     pub fn enter(&mut self, enclave: u8) -> Result<(), Decline>
         ensures { Does M.Memory D.meaning (Enter enclave) self.old (reply_by no_words result) self.new }
     {
-        let entered = may_step(
-            self.memory.size(),
-            &self.board,
-            enclave,
-            Call::Enter { enclave },
-        )?;
-        self.board.set_enclave(enclave, entered);
-        self.board.host = self.board.live;
-        self.board.running = enclave;
-        self.board.live = Context {
+        let entered = self.questions().may_step(enclave, Call::Enter { enclave })?;
+        let live = Context {
             pc: entered.entrypoint,
             registers: [0; 8],
         };
+        self.start(enclave, entered, live);
         Ok(())
     }
 
@@ -144,26 +127,17 @@ impl<M: Memory, D: Digest> Monitor<M, D> {
     pub fn resume(&mut self, enclave: u8) -> Result<(), Decline>
         ensures { Does M.Memory D.meaning (Resume enclave) self.old (reply_by no_words result) self.new }
     {
-        let resumed = may_step(
-            self.memory.size(),
-            &self.board,
-            enclave,
-            Call::Resume { enclave },
-        )?;
+        let resumed = self
+            .questions()
+            .may_step(enclave, Call::Resume { enclave })?;
         let saved = self.board.enclave(enclave).saved;
-        self.board.set_enclave(enclave, resumed);
-        self.board.host = self.board.live;
-        self.board.running = enclave;
-        self.board.live = saved;
+        self.start(enclave, resumed, saved);
         Ok(())
     }
 
     // Puts the host back in the place of the enclave that runs, whose record becomes `left`.
     fn leave(&mut self, left: Enclave)
-        ensures board { self.new.board ≡ switched (with_enclave self.old.board self.old.board.running left) 0 self.old.board.host idle }
-        ensures memory { self.new.memory ≡ self.old.memory }
-        ensures digest { self.new.digest ≡ self.old.digest }
-        ensures key { self.new.key ≡ self.old.key }
+        ensures { self.new ≡ record self.old { board = switched (with_enclave self.old.board self.old.board.running left) 0 self.old.board.host idle } }
     {
         let enclave = self.board.running;
         self.board.set_enclave(enclave, left);
@@ -176,7 +150,7 @@ impl<M: Memory, D: Digest> Monitor<M, D> {
     pub fn exit(&mut self) -> Result<(), Decline>
         ensures { Does M.Memory D.meaning Exit self.old (reply_by no_words result) self.new }
     {
-        may_leave(self.memory.size(), &self.board)?;
+        self.questions().may_leave()?;
         let left = self.board.enclave(self.board.running);
         self.leave(Enclave {
             phase: Phase::Ready,
@@ -189,7 +163,7 @@ impl<M: Memory, D: Digest> Monitor<M, D> {
     pub fn pause(&mut self) -> Result<(), Decline>
         ensures { Does M.Memory D.meaning Pause self.old (reply_by no_words result) self.new }
     {
-        may_leave(self.memory.size(), &self.board)?;
+        self.questions().may_leave()?;
         let left = self.board.enclave(self.board.running);
         self.leave(Enclave {
             phase: Phase::Paused,

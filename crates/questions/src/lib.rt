@@ -1,6 +1,17 @@
 // The questions that the gate puts to each call, and the step of an enclave's record.
 #![tactic(auto)]
 
-pub mod access;
-pub mod ask;
+use board::Board;
+
+mod access;
+mod ask;
 pub mod phases;
+
+pub use crate::access::{READ, WRITE};
+
+// The questions are put to a board, over a memory of so many words.
+#[derive(Clone, Copy)]
+pub struct Questions<'b> {
+    pub size: usize,
+    pub board: &'b Board,
+}
