@@ -18,7 +18,7 @@ use Rattle.runs.specs.Every.{RanNew}
 use Rattle.compare.specs.declared.replay.Answered.{Answered}
 use Rattle.compare.specs.Replays.{calls_in, file_events, ReplayedSo}
 
-module _ {M D B : Type 0} (m : Memory.Ghosts M) (d : Digest.Ghosts D B) (key : List ℕ) (memory : M) (bs : List ℕ) where
+module _ {M D : Type 0} (m : Memory.Ghosts M) (d : Digest.Ghosts D) (key : List ℕ) (memory : M) (bs : List ℕ) where
   -- the answers with their file, or that memory was wanting for them
   module _ (f : File) (cs : List Call) (after : M) (is : IsFiled f (all_filed bs)) (same : cs ≡ vec_items f.calls) where
     pub replayed : (post : Vec Answer Global → Answered → Type 0) (ran : Result (Vec Answer Global) AllocError) (made : Result Answered AllocError) → ((xs : Vec Answer Global) (a : Answered) → post xs a → a ≡ record { file = f; answers = xs }) → MatchResult ran (λ xs. RanNew m d key memory cs (vec_items xs) after) (λ e. after ≡ memory) → MatchResult ran (λ xs. IsOkAnd made (post xs)) (λ e. made ≡ Err e) → ReplayedSo m d key memory bs (record { memory = after; result = made })

@@ -10,7 +10,7 @@ use Rattle.runs.specs.Every.{events, EndedSo}
 use Rattle.runs.specs.declared.every.Ended.{Ended}
 use Rattle.compare.specs.declared.Pair.{Pair}
 
-pub record Compares {M N D B : Type 0} (m : Memory.Ghosts M) (n : Memory.Ghosts N) (d : Digest.Ghosts D B) (key : List ℕ) (left : M) (right : N) (cs ds : List Call) (r : Pair (Ended M (Vec Answer Global)) (Ended N (Vec Answer Global))) : Type 0 where
+pub record Compares {M N D : Type 0} (m : Memory.Ghosts M) (n : Memory.Ghosts N) (d : Digest.Ghosts D) (key : List ℕ) (left : M) (right : N) (cs ds : List Call) (r : Pair (Ended M (Vec Answer Global)) (Ended N (Vec Answer Global))) : Type 0 where
   -- the answers of each run, and its states after each call, are those of the bare board's events
   pub left_ran : EndedSo m d key left cs r.left
   pub right_ran : EndedSo n d key right ds r.right

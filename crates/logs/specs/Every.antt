@@ -13,7 +13,7 @@ use Rattle.runs.specs.declared.every.Ended.{Ended}
 use Rattle.compare.specs.Replays.{calls_in, file_events}
 use Rattle.logs.specs.Text.{log}
 
-module _ {M D B : Type 0} (m : Memory.Ghosts M) (d : Digest.Ghosts D B) (key : List ℕ) (memory : M) (bs : List ℕ) where
+module _ {M D : Type 0} (m : Memory.Ghosts M) (d : Digest.Ghosts D) (key : List ℕ) (memory : M) (bs : List ℕ) where
   -- the calls of the file were made to a new monitor, with some answers, and left the memory so
   abbrev pub MadeAnew : M → Type 0
   MadeAnew after = (xs : List Answer) × RanNew m d key memory (calls_in bs) xs after

@@ -14,7 +14,7 @@ use Rattle.monitor.specs.Gate.{state_of}
 use Rattle.runs.specs.Runs.{AddsRun, Ran, states}
 use Rattle.runs.specs.Every.{IsNew, RanNew, EndedSo}
 
-module _ {M D B : Type 0} (m : Memory.Ghosts M) (d : Digest.Ghosts D B) (key : List ℕ) (memory : M) (cs : List Call) where
+module _ {M D : Type 0} (m : Memory.Ghosts M) (d : Digest.Ghosts D) (key : List ℕ) (memory : M) (cs : List Call) where
   ran_new : (xs : List Answer) (g z : Monitor M D) (after : M) → IsNew m key memory g → Ran m d.meaning cs g xs z → after ≡ z.memory → RanNew m d key memory cs xs after
   ran_new xs g z after new r handed =
       let same : run d.meaning g.key (state_of m g) cs ≡ run d.meaning key (start (m.words memory)) cs =

@@ -20,11 +20,11 @@ pub record IsNew {M D : Type 0} (m : Memory.Ghosts M) (key : List ℕ) (memory :
   pub same_key : g.key ≡ key
 
 -- the bare board's events of these calls, made to a new monitor over this memory
-abbrev pub events : {M D B : Type 0} → Memory.Ghosts M → Digest.Ghosts D B → List ℕ → M → List Call → List Event
+abbrev pub events : {M D : Type 0} → Memory.Ghosts M → Digest.Ghosts D → List ℕ → M → List Call → List Event
 events m d key memory cs = run d.meaning key (start (m.words memory)) cs
 
 -- These calls were made to a new monitor over this memory, with these answers, and left the memory so.
-pub record RanNew {M D B : Type 0} (m : Memory.Ghosts M) (d : Digest.Ghosts D B) (key : List ℕ) (memory : M) (cs : List Call) (xs : List Answer) (after : M) : Type 0 where
+pub record RanNew {M D : Type 0} (m : Memory.Ghosts M) (d : Digest.Ghosts D) (key : List ℕ) (memory : M) (cs : List Call) (xs : List Answer) (after : M) : Type 0 where
   -- the new monitor, and the monitor after each call
   pub begun : Monitor M D
   pub monitors : List (Monitor M D)
@@ -36,5 +36,5 @@ pub record RanNew {M D B : Type 0} (m : Memory.Ghosts M) (d : Digest.Ghosts D B)
   pub states_are : map (state_of m) monitors ≡ states (events m d key memory cs)
 
 -- the calls were made; or there was no room for their answers, and the memory is as it was
-abbrev pub EndedSo : {M D B : Type 0} → Memory.Ghosts M → Digest.Ghosts D B → List ℕ → M → List Call → Ended M (Vec Answer Global) → Type 0
+abbrev pub EndedSo : {M D : Type 0} → Memory.Ghosts M → Digest.Ghosts D → List ℕ → M → List Call → Ended M (Vec Answer Global) → Type 0
 EndedSo m d key memory cs r = MatchResult r.result (λ xs. RanNew m d key memory cs (vec_items xs) r.memory) (λ e. r.memory ≡ memory)
