@@ -1,7 +1,8 @@
 -- What `filled` leaves at each place.
-use Rattle.std.proofs.Common.{◌≡◌, ℕ, zero, suc, ◌+◌, ◌<◌, ◌≤◌, ◌≢◌, ◌⊎◌, List, length, get_or, set, refl, ap, ◌∙◌, inl, inr, add-one, arith}
-use Rattle.std.proofs.lemmas.List.{get_or-set_same, get_or-set_other, length-set}
-use Rattle.std.proofs.lemmas.Bool.{cases_eq}
+use Rattle.std.proofs.Common.{◌≡◌, ℕ, zero, suc, ◌+◌, ◌-◌, ◌<◌, ◌≤◌, ◌≢◌, ◌⊎◌, List, length, get_or, set, refl, sym, ap, ◌∙◌, inl, inr, add-one, arith}
+use Rattle.std.proofs.lemmas.List.{get_or-set_same, get_or-set_other, length-set, ext_get_or, places}
+use Rattle.std.proofs.lemmas.Bool.{cases_eq, cases_lt}
+use borrow.Rule.Slice.PartMut.{mid_of, put_mid}
 use Rattle.memory.specs.Fills.{filled}
 
 module _ (ws : List ℕ) (a : ℕ) (f : ℕ → ℕ) where
@@ -32,3 +33,21 @@ module _ (ws : List ℕ) (a : ℕ) (f : ℕ → ℕ) where
             let less : k < n = omega arith in
             get_or-set_other (filled ws a f n) (a + n) (a + k) (f n) 0 apart ∙ filled_inside n k less l
       ]
+
+-- a part that is filled from its start
+pub filled_part : (ws : List ℕ) (a n : ℕ) (f : ℕ → ℕ) → a + n ≤ length ws → put_mid a n ws (filled (mid_of a n ws) 0 f n) ≡ filled ws a f n
+filled_part ws a n f h =
+    let part : List ℕ = filled (mid_of a n ws) 0 f n in
+    let whole : List ℕ = put_mid a n ws part in
+    let mid : length (mid_of a n ws) ≡ n = search (arith, places) in
+    let long : length part ≡ n = length_filled (mid_of a n ws) 0 f n ∙ mid in
+    let same : length whole ≡ length ws = search (arith, places) in
+    ext_get_or 0 whole (filled ws a f n) (same ∙ sym (length_filled ws a f n))
+    (λ p l.
+    elim (cases_lt p a) [
+      | inl below ↦ (search (arith, places)) ∙ sym (filled_outside ws a f n p (inl below))
+      | inr from ↦ elim (cases_lt (p - a) n) [
+          | inl within ↦ grind (arith, places, filled_inside (mid_of a n ws) 0 f n (p - a), filled_inside ws a f n (p - a))
+          | inr past ↦ (search (arith, places)) ∙ sym (filled_outside ws a f n p (inr (omega arith)))
+        ]
+    ])

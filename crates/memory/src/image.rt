@@ -32,8 +32,8 @@ fn copy_words(image: &[u8], area: &mut [u32], from: usize, count: usize)
     requires area { from + count ≤ length area.old }
     ensures { area.new ≡ filled area.old from (λ k. image_word image.now (from + k)) count }
 {
-    for k in 0..count {
-        area[from + k] = word_at(image, from + k);
+    for (k, word) in area[from..from + count].iter_mut().enumerate() {
+        *word = word_at(image, from + k);
     }
 }
 

@@ -14,16 +14,14 @@ pub use crate::word::WordMemory;
 #[derive(Clone, Copy, PartialEq, Eq)]
 pub enum Fault {
     // The place is not below the size.
-    OutOfRange,
+    OutOfRange = 12,
 }
 
 impl Fault {
     pub fn number(self) -> u32
         ensures { result ≡ fault_number self }
     {
-        match self {
-            Fault::OutOfRange => 12,
-        }
+        self as u32
     }
 }
 

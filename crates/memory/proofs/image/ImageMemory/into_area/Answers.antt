@@ -1,6 +1,5 @@
-use Rattle.std.proofs.Common.{refl}
 use Rattle.memory.proofs.Pictures.{area_holds}
 use Rattle.memory.proofs.image.ImageMemory.into_area.Goals as goal
 
-pub returns : goal.returns
-returns c = let s = c.args.self in record { area = refl; words = area_holds s.image.now s.area.now s.copied }
+pub returns-clause-words : goal.returns-clause-words
+returns-clause-words c = area_holds c.args.self.image.now c.args.self.area.now c.args.self.copied
