@@ -1,5 +1,5 @@
 -- What `filled` leaves at each place.
-use Rattle.std.proofs.Common.{◌≡◌, ℕ, zero, suc, ◌+◌, ◌-◌, ◌<◌, ◌≤◌, ◌≢◌, ◌⊎◌, List, length, get_or, set, refl, sym, ap, ◌∙◌, inl, inr, add-one, arith}
+use Rattle.std.proofs.Common.{◌≡◌, ℕ, zero, suc, ◌+◌, ◌-◌, ◌<◌, ◌≤◌, ◌⊎◌, List, length, get_or, set, refl, sym, ap, ◌∙◌, inl, inr, add-one, arith}
 use Rattle.std.proofs.lemmas.List.{get_or-set_same, get_or-set_other, length-set, ext_get_or, places}
 use Rattle.std.proofs.lemmas.Bool.{cases_eq, cases_lt}
 use borrow.Rule.Slice.PartMut.{mid_of, put_mid}
@@ -16,22 +16,15 @@ module _ (ws : List ℕ) (a : ℕ) (f : ℕ → ℕ) where
 
   pub filled_outside : (n p : ℕ) → (p < a) ⊎ (a + n ≤ p) → get_or (filled ws a f n) p 0 ≡ get_or ws p 0
   filled_outside zero p h = refl
-  filled_outside (suc n) p h =
-      let ne : p ≢ a + n = elim h [ inl l ↦ omega arith | inr l ↦ omega arith ] in
-      let rest : (p < a) ⊎ (a + n ≤ p) = elim h [ inl l ↦ inl l | inr l ↦ inr (omega arith) ] in
-      get_or-set_other (filled ws a f n) (a + n) p (f n) 0 ne ∙ filled_outside n p rest
+  filled_outside (suc n) p (inl below) = grind (arith, get_or-set_other, filled_outside n p (inl below))
+  filled_outside (suc n) p (inr past) = grind (arith, get_or-set_other, filled_outside n p (inr (omega arith)))
 
   pub filled_inside : (n k : ℕ) → k < n → a + k < length ws → get_or (filled ws a f n) (a + k) 0 ≡ f k
   filled_inside zero k h l = absurd (omega arith)
   filled_inside (suc n) k h l =
       elim (cases_eq k n) [
-        | inl e ↦
-            let w : a + n < length (filled ws a f n) = omega (arith, length_filled n) in
-            rw e (get_or-set_same (filled ws a f n) (a + n) (f n) 0 w)
-        | inr ne ↦
-            let apart : a + k ≢ a + n = omega arith in
-            let less : k < n = omega arith in
-            get_or-set_other (filled ws a f n) (a + n) (a + k) (f n) 0 apart ∙ filled_inside n k less l
+        | inl e ↦ grind (arith, length_filled, get_or-set_same)
+        | inr ne ↦ grind (arith, get_or-set_other, filled_inside n k (omega arith) l)
       ]
 
 -- a part that is filled from its start
@@ -47,7 +40,7 @@ filled_part ws a n f h =
     elim (cases_lt p a) [
       | inl below ↦ (search (arith, places)) ∙ sym (filled_outside ws a f n p (inl below))
       | inr from ↦ elim (cases_lt (p - a) n) [
-          | inl within ↦ grind (arith, places, filled_inside (mid_of a n ws) 0 f n (p - a), filled_inside ws a f n (p - a))
-          | inr past ↦ (search (arith, places)) ∙ sym (filled_outside ws a f n p (inr (omega arith)))
-        ]
+        | inl within ↦ grind (arith, places, filled_inside (mid_of a n ws) 0 f n (p - a), filled_inside ws a f n (p - a))
+        | inr past ↦ (search (arith, places)) ∙ sym (filled_outside ws a f n p (inr (omega arith)))
+      ]
     ])

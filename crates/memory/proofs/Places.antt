@@ -1,8 +1,8 @@
 -- The laws of `placed`.
-use Rattle.std.proofs.Common.{◌≡◌, ℕ, ◌<◌, ◌≤◌, List, length, get_or, set, Ok, Err, sym, ap, ◌∙◌, inl, inr, arith}
+use Rattle.std.proofs.Common.{◌≡◌, ℕ, ◌<◌, ◌≤◌, List, length, get_or, set, Ok, Err, inl, inr, arith}
 use Rattle.std.proofs.lemmas.List.{ext_get_or, get_or-set_same, get_or-set_other, length-set}
 use Rattle.std.proofs.lemmas.List.FromFn.{length-map-range_with_len, get_or-map-range_with_len}
-use Rattle.std.proofs.lemmas.Bool.{cases_eq, cases_lt}
+use Rattle.std.proofs.lemmas.Bool.{cases_eq}
 use Rattle.std.proofs.lemmas.Bool.Decides.{nat_tests}
 use Rattle.memory.specs.declared.Fault.{Fault}
 use Rattle.memory.specs.declared.Fault.TheVariants.{OutOfRange}
@@ -20,30 +20,19 @@ getD_placed f ws p h = get_or-map-range_with_len (λ p. f p (get_or ws p 0)) 0 (
 -- two lists, each place by place, are equal
 pub placed_same : (f g : ℕ → ℕ → ℕ) (us ws : List ℕ) → length us ≡ length ws → ((p : ℕ) → p < length ws → f p (get_or us p 0) ≡ g p (get_or ws p 0)) → placed f us ≡ placed g ws
 placed_same f g us ws e h =
-    ext_get_or 0 (placed f us) (placed g ws) (length_placed f us ∙ e ∙ sym (length_placed g ws))
-    (λ i l.
-    let lu : i < length us = omega (arith, length_placed f us) in
-    let lw : i < length ws = omega arith in
-    getD_placed f us i lu ∙ h i lw ∙ sym (getD_placed g ws i lw))
+    ext_get_or 0 (placed f us) (placed g ws)
+    (grind (arith, length_placed))
+    (λ i l. grind (arith, length_placed, getD_placed, h i))
 
 -- a write below is a write above
 pub placed_set : (f : ℕ → ℕ → ℕ) (ws : List ℕ) (p w : ℕ) → placed f (set ws p w) ≡ set (placed f ws) p (f p w)
 placed_set f ws p w =
     ext_get_or 0 (placed f (set ws p w)) (set (placed f ws) p (f p w))
     (simp (length_placed, length-set))
-    (λ i l.
-    let ls : i < length (set ws p w) = omega (arith, length_placed f (set ws p w)) in
-    let lw : i < length ws = omega (arith, length-set ws p w) in
-    let lp : i < length (placed f ws) = omega (arith, length_placed f ws) in
-    let step : get_or (set (placed f ws) p (f p w)) i 0 ≡ f i (get_or (set ws p w) i 0) =
-    elim (cases_eq i p) [
-      | inl e ↦
-          let pp : p < length (placed f ws) = omega arith in
-          let pw : p < length ws = omega arith in
-          rw e (get_or-set_same (placed f ws) p (f p w) 0 pp ∙ sym (ap (f p) (get_or-set_same ws p w 0 pw)))
-      | inr ne ↦ rw (get_or-set_other (placed f ws) p i (f p w) 0 ne, get_or-set_other ws p i w 0 ne) (getD_placed f ws i lw)
-    ] in
-    getD_placed f (set ws p w) i ls ∙ sym step)
+    (λ i l. elim (cases_eq i p) [
+      | inl e ↦ grind (arith, length_placed, length-set, getD_placed, get_or-set_same)
+      | inr ne ↦ grind (arith, length_placed, length-set, getD_placed, get_or-set_other)
+    ])
 
 -- what an answer says of the place
 pub accepted_in : {X : Type 0} (ws : List ℕ) (p : ℕ) (x : X) → p < length ws → accepted ws p x ≡ Ok x
@@ -53,31 +42,17 @@ pub accepted_out : {X : Type 0} (ws : List ℕ) (p : ℕ) (x : X) → length ws 
 accepted_out ws p x h = grind (arith, nat_tests)
 
 pub within : {X : Type 0} (ws : List ℕ) (p : ℕ) (x y : X) → Ok y ≡ accepted ws p x → (p < length ws) × (y ≡ x)
-within ws p x y e =
-    elim (cases_lt p (length ws)) [
-      | inl l ↦ let q = e ∙ accepted_in ws p x l in (l, (cc))
-      | inr g ↦ let q = e ∙ accepted_out ws p x g in let z : ◌≡◌ {A = ℕ} 0 1 = cc in absurd (omega arith)
-    ]
+within ws p x y e = (grind (arith, nat_tests), grind (arith, nat_tests))
 
 pub outside : {X : Type 0} (ws : List ℕ) (p : ℕ) (x : X) (d : Fault) → Err d ≡ accepted ws p x → (length ws ≤ p) × (d ≡ OutOfRange)
-outside ws p x d e =
-    elim (cases_lt p (length ws)) [
-      | inl l ↦ let q = e ∙ accepted_in ws p x l in let z : ◌≡◌ {A = ℕ} 0 1 = cc in absurd (omega arith)
-      | inr g ↦ let q = e ∙ accepted_out ws p x g in (g, (cc))
-    ]
+outside ws p x d e = (grind (arith, nat_tests), grind (arith, nat_tests))
 
 -- a rule by places keeps the answers
 pub stored_placed : (f : ℕ → ℕ → ℕ) (ws : List ℕ) (p : ℕ) → stored (placed f ws) p ≡ stored ws p
 stored_placed f ws p = simp length_placed
 
 pub fetched_placed : (f : ℕ → ℕ → ℕ) (ws : List ℕ) (p w : ℕ) → Ok w ≡ fetched ws p → Ok (f p w) ≡ fetched (placed f ws) p
-fetched_placed f ws p w e =
-    let h = within ws p (get_or ws p 0) w e in
-    let l : p < length (placed f ws) = omega (arith, length_placed f ws, h.0) in
-    sym (accepted_in (placed f ws) p (get_or (placed f ws) p 0) l ∙ ap Ok (getD_placed f ws p h.0 ∙ ap (f p) (sym h.1)))
+fetched_placed f ws p w e = grind (arith, nat_tests, length_placed, getD_placed)
 
 pub fetched_declined : (f : ℕ → ℕ → ℕ) (ws : List ℕ) (p : ℕ) (d : Fault) → Err d ≡ fetched ws p → Err d ≡ fetched (placed f ws) p
-fetched_declined f ws p d e =
-    let h = outside ws p (get_or ws p 0) d e in
-    let l : length (placed f ws) ≤ p = omega (arith, length_placed f ws, h.0) in
-    ap Err h.1 ∙ sym (accepted_out (placed f ws) p (get_or (placed f ws) p 0) l)
+fetched_declined f ws p d e = grind (arith, nat_tests, length_placed)
