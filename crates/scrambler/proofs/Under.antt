@@ -1,5 +1,5 @@
 -- What a word under a pad is.
-use Rattle.std.proofs.Common.{◌≡◌, ℕ, ◌<◌, List, length, get_or, set, ap, ◌∙◌, arith}
+use Rattle.std.proofs.Common.{◌≡◌, ℕ, List, set, ap, ◌∙◌, arith}
 use lib.Bits.{bit_xor, xor_assoc, xor_self, xor_zero_r}
 use Rattle.std.proofs.lemmas.List.{ext_get_or}
 use Rattle.memory.proofs.Places.{length_placed, getD_placed, placed_set}
@@ -16,9 +16,5 @@ padded_set key ws p w =
 -- under its pads twice a list is as it was
 pub padded_twice : (key : ℕ) (ws : List ℕ) → padded key (padded key ws) ≡ ws
 padded_twice key ws =
-    let f : ℕ → ℕ → ℕ = λ p w. bit_xor w (pad key p) in
-    ext_get_or 0 (padded key (padded key ws)) ws (length_placed f (padded key ws) ∙ length_placed f ws)
-    (λ p l.
-    let lm : p < length (padded key ws) = omega (arith, length_placed f (padded key ws)) in
-    let lw : p < length ws = omega (arith, length_placed f ws) in
-    getD_placed f (padded key ws) p lm ∙ ap (f p) (getD_placed f ws p lw) ∙ xor_back (get_or ws p 0) (pad key p))
+    ext_get_or 0 (padded key (padded key ws)) ws (grind (arith, length_placed))
+    (λ p l. grind (arith, length_placed, getD_placed, xor_back))
