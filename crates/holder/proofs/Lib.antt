@@ -1,2 +1,4 @@
 pub mod Held
 pub mod Steps
+pub mod SameHolder
+pub mod Listed

@@ -6,7 +6,7 @@ ghost use Rattle.memory.specs.Words.{fetched, stored, replaced};
 ghost use Rattle.holder.specs.Lines.{overlaid, held_lines, held_next, Within, Own, Small, Full};
 ghost use Rattle.holder.specs.Accesses.{slots_next, below_next, slots_written, below_written};
 
-use crate::slots::{Slots, hold, peek, poke, write_down};
+use crate::slots::{Slots, hold, slot_of};
 use memory::{Fault, Memory};
 
 mod slots;
@@ -39,11 +39,8 @@ impl<M: Memory> LineHolder<M> {
         ensures { M.Memory.words result ≡ overlaid self.slots.lines (M.Memory.words self.below) }
     {
         let LineHolder { mut below, slots } = self;
-        for slot in 0..8usize {
-            let found = slots.lines[slot];
-            if let Some(line) = found {
-                write_down(&mut below, &line);
-            }
+        for line in slots.lines.iter().flatten() {
+            line.write_down(&mut below);
         }
         below
     }
@@ -69,11 +66,11 @@ impl<M: Memory> Memory for LineHolder<M> {
         if place >= self.below.size() {
             return Err(Fault::OutOfRange);
         }
-        let held = hold(&mut self.below, &mut self.slots, place);
-        if !held {
-            return self.below.read(place);
+        let LineHolder { below, slots } = self;
+        match hold(&mut slots.lines[slot_of(place)], below, place / 16) {
+            Some(line) => Ok(line.words[place % 16]),
+            None => below.read(place),
         }
-        Ok(peek(&self.slots, place))
     }
 
     // An accepted write takes its line in, and the word stays in the slot.
@@ -90,11 +87,13 @@ impl<M: Memory> Memory for LineHolder<M> {
         if place >= size {
             return Err(Fault::OutOfRange);
         }
-        let held = hold(&mut self.below, &mut self.slots, place);
-        if !held {
-            return self.below.write(place, word);
+        let LineHolder { below, slots } = self;
+        match hold(&mut slots.lines[slot_of(place)], below, place / 16) {
+            Some(line) => {
+                line.words[place % 16] = word;
+                Ok(())
+            }
+            None => below.write(place, word),
         }
-        poke(&mut self.slots, place, word);
-        Ok(())
     }
 }

@@ -1,44 +1,36 @@
-use Rattle.std.proofs.Common.{◌≡◌, ◌<◌, Some, sym, ap, ◌∙◌, subst, inl, inr, arith}
-use Rattle.std.proofs.lemmas.Bool.{cases_eq}
-use Rattle.holder.specs.Lines.{overlaid}
-use Rattle.holder.specs.Accesses.{written_down}
-use Rattle.holder.proofs.Held.{Clean, all_clean, clean_none, down_clean, down_means, down_others}
+use Rattle.std.proofs.Common.{◌≡◌, length, sym, ◌∙◌, arith}
+use Rattle.std.proofs.lemmas.List.{length_push}
+use Rattle.std.proofs.lemmas.Iterator.Consumers.{YieldsList-turn, YieldsList-end}
+use Rattle.holder.proofs.Listed.{listed_small, listed_means, listed_more, listed_clean, slots_yield}
 use Rattle.holder.proofs.LineHolder.end.Goals as goal
-use Rattle.holder.proofs.LineHolder.end.Goals.{in-Some, in_default}
 
 pub write_down-requires : goal.write_down-requires
-write_down-requires g c = c.args.self.small _ _ c.in-Some.is
+write_down-requires g c =
+    let s = c.args.self in
+    let road = slots_yield {s = c.into_iter-line-iterator.result} _ (λ x j b. (b.0, b.1)) s.slots.lines (cc) (cc) (cc) (cc) in
+    let t = YieldsList-turn road c.loop-line.yielded _ c.loop-line.yielded_by _ _ c.in-Some.line c.in-Some.is c.next.ensures.steps in
+    listed_small s.slots.lines (g.M.Memory.words c.loop-line.below) s.own (length c.loop-line.yielded) c.in-Some.line.now t.0 t.1 s.small
 
-pub loop-slot-preserved : goal.loop-slot-preserved
-loop-slot-preserved g c =
-    let lines = c.args.self.slots.lines in
-    let ws = g.M.Memory.words c.loop-slot.below in
-    let i = c.loop-slot.slot in
-    elim c.match-found.branch [
-      | in-Some w ↦
-          let line = w.in-Some.line in
-          let e : g.M.Memory.words c.match-found.below ≡ written_down (Some line) ws = ap g.M.Memory.words w.below-is ∙ w.write_down.ensures in
-          let own = c.args.self.own _ _ w.in-Some.is in (
-            ap (overlaid lines) e ∙ down_means lines i line w.in-Some.is ws own ∙ c.loop-slot.invariant.0,
-            λ s l. subst (λ x. Clean lines x s) (sym e)
-                (elim (cases_eq s i) [
-                  | inl q ↦ subst (Clean lines (written_down (Some line) ws)) (sym q) (down_clean lines i line w.in-Some.is ws own)
-                  | inr ne ↦ down_others lines i line w.in-Some.is ws own s ne (c.loop-slot.invariant.1 s (let k : s < i = omega arith in k))
-                ]),
-          )
-      | in_default w ↦
-          let e : g.M.Memory.words c.match-found.below ≡ ws = ap g.M.Memory.words w.below-is in (
-            ap (overlaid lines) e ∙ c.loop-slot.invariant.0,
-            λ s l. subst (λ x. Clean lines x s) (sym e)
-                (elim (cases_eq s i) [
-                  | inl q ↦ subst (Clean lines ws) (sym q) (clean_none lines ws i w.in_default.is)
-                  | inr ne ↦ c.loop-slot.invariant.1 s (let k : s < i = omega arith in k)
-                ]),
-          )
-    ]
+pub loop-line-preserved : goal.loop-line-preserved
+loop-line-preserved g c =
+    let s = c.args.self in
+    let lines = s.slots.lines in
+    let ws = g.M.Memory.words c.loop-line.below in
+    let now = c.in-Some.line.now in
+    let n = length c.loop-line.yielded in
+    let road = slots_yield {s = c.into_iter-line-iterator.result} _ (λ x j b. (b.0, b.1)) lines (cc) (cc) (cc) (cc) in
+    let t = YieldsList-turn road c.loop-line.yielded _ c.loop-line.yielded_by _ _ c.in-Some.line c.in-Some.is c.next.ensures.steps in
+    rw c.write_down.ensures (record {
+      means = listed_means lines ws s.own n now t.0 t.1 ∙ c.loop-line.invariant.means;
+      clean = λ j line l e. listed_more lines ws s.own n now t.0 t.1 c.loop-line.invariant.clean j line (rw (← length_push c.loop-line.yielded c.in-Some.line) l) e;
+    })
 
 pub returns : goal.returns
 returns g c =
-    let lines = c.args.self.slots.lines in
-    let ws = g.M.Memory.words c.loop-slot.below in
-    sym (all_clean lines ws (λ s l. c.loop-slot.invariant.1 s (let k : s < c.loop-slot.slot = omega arith in k))) ∙ c.loop-slot.invariant.0
+    let s = c.args.self in
+    let lines = s.slots.lines in
+    let eight : length lines ≡ 8 = omega arith in
+    let road = slots_yield {s = c.into_iter-line-iterator.result} _ (λ x j b. (b.0, b.1)) lines (cc) (cc) (cc) (cc) in
+    let all = (YieldsList-end road c.loop-line.yielded _ c.loop-line.yielded_by _ _ c.in-None.is c.next.ensures.steps).1 in
+    let clean = listed_clean lines (g.M.Memory.words c.loop-line.below) s.own (λ j line l e. c.loop-line.invariant.clean j line (rw all l) e) eight in
+    sym clean ∙ c.loop-line.invariant.means

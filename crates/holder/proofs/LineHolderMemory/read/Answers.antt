@@ -1,66 +1,64 @@
-use Rattle.std.proofs.Common.{◌<◌, ◌≤◌, length, get_or, sym, refl, ap, ◌∙◌, subst, arith}
-use Rattle.memory.proofs.Places.{length_placed, accepted_out}
-use Rattle.holder.specs.Lines.{overlaid, laid, held_lines, Within}
-use Rattle.holder.proofs.Steps.{held_within, held_out, slots_out, below_out, fetched_held, fetched_passed}
+use Rattle.std.proofs.Common.{◌≡◌, ◌<◌, length, get_or, Some, None, sym, arith}
+use Rattle.std.proofs.lemmas.Bool.Decides.{nat_tests}
+use Rattle.memory.proofs.Places.{length_placed}
+use Rattle.holder.specs.Lines.{line_of, slot_of, held_lines}
+use Rattle.holder.proofs.Steps.{taken, passed_below, fetched_held, fetched_passed, held_within}
+use Rattle.holder.specs.Accesses.{below_next}
+use Rattle.holder.specs.Slots.{line_next}
+use Rattle.std.proofs.lemmas.List.{set-get_or}
+use Rattle.holder.proofs.SameHolder.{same_facts}
 use Rattle.holder.proofs.LineHolderMemory.read.Goals as goal
 
-pub returns-then-place-size : goal.returns-then-place-size
-returns-then-place-size g c =
+pub returns-then-place-size-clause-answer : goal.returns-then-place-size-clause-answer
+returns-then-place-size-clause-answer g c = grind (arith, nat_tests, length_placed)
+
+pub returns-then-place-size-clause-declined : goal.returns-then-place-size-clause-declined
+returns-then-place-size-clause-declined g c =
+    let s = c.args.self.now in
+    λ _. same_facts s.slots.lines (λ own small full. record { below = s.below; slots = s.slots; own = own; small = small; full = full }) _ _ _ _ _ _
+
+pub invariant_of-self-in-Some : goal.invariant_of-self-in-Some
+invariant_of-self-in-Some g c =
     let s = c.args.self.now in
     let lines = s.slots.lines in
     let ws = g.M.Memory.words s.below in
-    let base = overlaid lines ws in
     let p = c.args.place in
-    let out : length ws ≤ p = omega arith in
-    let l : length base ≤ p = omega (arith, length_placed (laid lines) ws) in
-    record {
-      answer = sym (accepted_out base p (get_or base p 0) l);
-      keeps = refl;
-      declined = λ _. refl;
-      held = held_out lines ws p out;
-      within = λ all. all;
-      slots = sym (slots_out lines ws p out);
-      below = sym (below_out lines ws p out);
-    }
+    let l : slot_of p < length lines = omega arith in
+    let e : line_next (get_or lines (slot_of p) None) ws (line_of p) ≡ Some c.in-Some.line.now = rw (c.slot_of.ensures, c.in-Some.is) at (sym c.hold.ensures.line) in
+    let t = taken lines ws p c.in-Some.line.now l (record { own = s.own; small = s.small; full = s.full }) c.ranges.place.fits e in
+    rw c.slot_of.ensures (record { own = t.sound.own; small = t.sound.small; full = t.sound.full })
 
-pub invariant_of-self : goal.invariant_of-self
-invariant_of-self g c = let sound = c.hold-held.ensures.sound in record { own = sound.own; small = sound.small; full = sound.full }
-
-pub returns : goal.returns
-returns g c =
+pub returns-in-Some : goal.returns-in-Some
+returns-in-Some g c =
     let s = c.args.self.now in
+    let lines = s.slots.lines in
     let ws = g.M.Memory.words s.below in
-    let base = overlaid s.slots.lines ws in
     let p = c.args.place in
-    let new = c.hold-held.ensures in
-    let l : p < length base = omega (arith, length_placed (laid s.slots.lines) ws) in
+    let l : slot_of p < length lines = omega arith in
+    let e : line_next (get_or lines (slot_of p) None) ws (line_of p) ≡ Some c.in-Some.line.now = rw (c.slot_of.ensures, c.in-Some.is) at (sym c.hold.ensures.line) in
+    let below : g.M.Memory.words c.hold.new.below ≡ below_next lines ws p = rw c.slot_of.ensures at c.hold.ensures.below in
+    let t = taken lines ws p c.in-Some.line.now l (record { own = s.own; small = s.small; full = s.full }) c.ranges.place.fits e in
     record {
-      answer = fetched_held c.hold-held.new.slots.lines (g.M.Memory.words c.hold-held.new.below) base p new.means c.peek.result c.peek.ensures l (sym new.held ∙ c.if-not-held.false);
-      keeps = new.means;
-      declined = λ k. absurd (omega arith);
-      held = new.lines;
-      within = λ all. subst (Within (length ws)) (sym new.lines) (held_within (length ws) p (held_lines s.slots.lines) all);
-      slots = new.slots;
-      below = new.below;
+      answer = fetched_held lines ws p c.in-Some.line.now l t (omega arith);
+      keeps = rw (c.slot_of.ensures, below) t.keeps;
+      declined = λ k. absurd (omega (arith, length_placed));
+      held = rw c.slot_of.ensures t.held;
+      within = λ all. rw (c.slot_of.ensures, t.held) (held_within (length ws) p (held_lines lines) all);
+      slots = rw c.slot_of.ensures t.slots;
+      below = below;
     }
 
-pub invariant_of-self-else-not-held : goal.invariant_of-self-else-not-held
-invariant_of-self-else-not-held g c = let sound = c.hold-held.ensures.sound in record { own = sound.own; small = sound.small; full = sound.full }
-
-pub returns-then-not-held : goal.returns-then-not-held
-returns-then-not-held g c =
-    let s = c.args.self.now in
-    let ws = g.M.Memory.words s.below in
-    let base = overlaid s.slots.lines ws in
+pub returns-in-None-clause-answer : goal.returns-in-None-clause-answer
+returns-in-None-clause-answer g c =
+    let lines = c.args.self.now.slots.lines in
+    let ws = g.M.Memory.words c.args.self.now.below in
     let p = c.args.place in
-    let new = c.hold-held.ensures in
-    let l : p < length base = omega (arith, length_placed (laid s.slots.lines) ws) in
-    record {
-      answer = fetched_passed c.hold-held.new.slots.lines (g.M.Memory.words c.hold-held.new.below) base p new.means c.read.result l (sym new.held ∙ c.if-not-held.true) c.read.ensures.answer;
-      keeps = ap (overlaid c.hold-held.new.slots.lines) c.read.ensures.keeps ∙ new.means;
-      declined = λ k. absurd (omega arith);
-      held = new.lines;
-      within = λ all. subst (Within (length ws)) (sym new.lines) (held_within (length ws) p (held_lines s.slots.lines) all);
-      slots = new.slots;
-      below = c.read.ensures.keeps ∙ new.below;
-    }
+    let e : line_next (get_or lines (slot_of p) None) ws (line_of p) ≡ None = rw (c.slot_of.ensures, c.in-None.is) at (sym c.hold.ensures.line) in
+    let below : g.M.Memory.words c.hold.new.below ≡ below_next lines ws p = rw c.slot_of.ensures at c.hold.ensures.below in
+    rw (c.read.ensures.answer, below, passed_below lines ws p e) (fetched_passed lines ws p e (omega arith))
+
+pub returns-in-None-clause-declined : goal.returns-in-None-clause-declined
+returns-in-None-clause-declined g c = λ k. absurd (omega (arith, length_placed))
+
+pub returns-in-None-clause-within : goal.returns-in-None-clause-within
+returns-in-None-clause-within g c = λ all. rw set-get_or all

@@ -1,6 +1,5 @@
-use Rattle.std.proofs.Common.{sym, ◌∙◌}
 use Rattle.memory.proofs.Places.{length_placed}
 use Rattle.holder.proofs.LineHolderMemory.size.Goals as goal
 
 pub returns : goal.returns
-returns g c = c.size.ensures ∙ sym (length_placed _ _)
+returns g c = rw length_placed c.size.ensures

@@ -1,8 +1,0 @@
-use Rattle.std.proofs.Common.{◌≡◌, ℕ, ◌+◌, ◌*◌, ◌<◌, length, get_or}
-use Rattle.holder.proofs.slots.take_in.Given as goal
-
-abbrev pub invariant-loop-k : goal.invariant-loop-k
-invariant-loop-k g l =
-    (g.M.Memory.words l.below ≡ g.M.Memory.words l.initial.below)
-    × (length l.words ≡ 16)
-    × ((j : ℕ) → j < l.k → get_or l.words j 0 ≡ get_or (g.M.Memory.words l.initial.below) (l.number * 16 + j) 0)
