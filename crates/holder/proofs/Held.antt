@@ -1,12 +1,12 @@
 -- What the lines in the slots mean over the list below.
-use Rattle.std.proofs.Common.{◌≡◌, ℕ, ◌+◌, ◌*◌, ◌%◌, ◌<◌, ◌≤◌, true, false, ◌≢◌, ◌⊎◌, List, length, get_or, set, Some, None, Option, refl, ap, ◌∙◌, inl, inr, arith, eqb-true}
+use Rattle.std.proofs.Common.{◌≡◌, ℕ, ◌+◌, ◌*◌, ◌%◌, ◌<◌, ◌≤◌, false, ◌≢◌, ◌⊎◌, List, length, get_or, set, Some, None, Option, refl, ap, ◌∙◌, inl, inr, arith}
 use Rattle.std.proofs.lemmas.List.{get_or-set_same, get_or-set_other, length-set, ext_get_or}
 use Rattle.std.proofs.lemmas.Bool.{cases_eq, cases_lt}
 use Rattle.std.proofs.lemmas.Bool.Decides.{nat_tests}
 use Rattle.memory.proofs.Places.{length_placed, getD_placed, placed_same, placed_set}
 use Rattle.memory.proofs.Copies.{length_filled, filled_outside, filled_inside}
 use Rattle.holder.specs.declared.slots.Line.{Line}
-use Rattle.holder.specs.Lines.{line_of, slot_of, is_line, holds, laid, overlaid}
+use Rattle.holder.specs.Lines.{line_of, slot_of, holds, laid, overlaid}
 use Rattle.holder.specs.Accesses.{written_down}
 
 -- the list below has what the slot s means
@@ -109,8 +109,3 @@ put_means lines ws p w line ls is long number l =
 -- one word of the list below, of a line that is not held, is replaced
 pub passed : (lines : List (Option Line)) (ws : List ℕ) (p w : ℕ) → holds lines p ≡ false → overlaid lines (set ws p w) ≡ set (overlaid lines ws) p w
 passed lines ws p w h = grind (arith, placed_set)
-
--- what is held is a line
-pub is_some : (o : Option Line) (n : ℕ) → is_line o n ≡ true → (line : Line) × (o ≡ Some line) × (line.number ≡ n)
-is_some None n e = absurd (cc)
-is_some (Some line) n e = (line, refl, eqb-true line.number n e)

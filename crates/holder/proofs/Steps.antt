@@ -98,22 +98,11 @@ module _ (lines : List (Option Line)) (ws : List ℕ) (p : ℕ) (line : Line) (l
 
 -- an access whose line would pass the end
 module _ (lines : List (Option Line)) (ws : List ℕ) (p : ℕ) (e : line_next (get_or lines (slot_of p) None) ws (line_of p) ≡ None) where
-  pub passed_slots : slots_next lines ws p ≡ lines
-  passed_slots = grind arith
-
   pub passed_below : below_next lines ws p ≡ ws
   passed_below = grind arith
 
   pub passed_not : holds lines p ≡ false
   passed_not = grind arith
-
-  pub passed_held : held_next (held_lines lines) (length ws) p ≡ held_lines lines
-  passed_held = grind arith
-
--- an access that is declined
-module _ (lines : List (Option Line)) (ws : List ℕ) (p : ℕ) (out : length ws ≤ p) where
-  pub out_held : held_next (held_lines lines) (length ws) p ≡ held_lines lines
-  out_held = grind (arith, nat_tests)
 
 -- what a read answers of a held line
 pub fetched_held : (lines : List (Option Line)) (ws : List ℕ) (p : ℕ) (line : Line) → slot_of p < length lines → Taken lines ws p line → p < length ws → Ok (get_or line.words (p % 16) 0) ≡ fetched (overlaid lines ws) p
@@ -164,9 +153,3 @@ held_within size p held all s n e =
 module _ (lines : List (Option Line)) (ws : List ℕ) (p : ℕ) (e : line_next (get_or lines (slot_of p) None) ws (line_of p) ≡ None) (l : p < length ws) where
   pub fetched_passed : fetched ws p ≡ fetched (overlaid lines ws) p
   fetched_passed = grind (arith, nat_tests, length_placed, getD_placed, passed_not lines ws p e)
-
-  pub written_passed : (w : ℕ) → slots_written lines ws p w ≡ lines
-  written_passed w = grind (arith, nat_tests, passed_not lines ws p e)
-
-  pub stored_passed : (w : ℕ) → below_written lines ws p w ≡ set ws p w
-  stored_passed w = grind (arith, nat_tests, passed_not lines ws p e)

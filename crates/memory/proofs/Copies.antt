@@ -1,5 +1,5 @@
 -- What `filled` leaves at each place.
-use Rattle.std.proofs.Common.{◌≡◌, ℕ, zero, suc, ◌+◌, ◌-◌, ◌<◌, ◌≤◌, ◌⊎◌, List, length, get_or, set, refl, sym, ap, ◌∙◌, inl, inr, add-one, arith}
+use Rattle.std.proofs.Common.{◌≡◌, ℕ, zero, suc, ◌+◌, ◌-◌, ◌<◌, ◌≤◌, ◌⊎◌, List, length, get_or, refl, sym, ◌∙◌, inl, inr, arith}
 use Rattle.std.proofs.lemmas.List.{get_or-set_same, get_or-set_other, length-set, ext_get_or, places}
 use Rattle.std.proofs.lemmas.Bool.{cases_eq, cases_lt}
 use borrow.Rule.Slice.PartMut.{mid_of, put_mid}
@@ -9,10 +9,6 @@ module _ (ws : List ℕ) (a : ℕ) (f : ℕ → ℕ) where
   pub length_filled : (n : ℕ) → length (filled ws a f n) ≡ length ws
   length_filled zero = refl
   length_filled (suc n) = length-set (filled ws a f n) (a + n) (f n) ∙ length_filled n
-
-  -- one word more
-  pub filled_more : (n : ℕ) → filled ws a f (n + 1) ≡ set (filled ws a f n) (a + n) (f n)
-  filled_more n = ap (filled ws a f) (add-one n)
 
   pub filled_outside : (n p : ℕ) → (p < a) ⊎ (a + n ≤ p) → get_or (filled ws a f n) p 0 ≡ get_or ws p 0
   filled_outside zero p h = refl

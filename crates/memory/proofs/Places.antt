@@ -1,12 +1,11 @@
 -- The laws of `placed`.
-use Rattle.std.proofs.Common.{◌≡◌, ℕ, ◌<◌, ◌≤◌, List, length, get_or, set, Ok, Err, inl, inr, arith}
+use Rattle.std.proofs.Common.{◌≡◌, ℕ, ◌<◌, List, length, get_or, set, Ok, Err, inl, inr, arith}
 use Rattle.std.proofs.lemmas.List.{ext_get_or, get_or-set_same, get_or-set_other, length-set}
 use Rattle.std.proofs.lemmas.List.FromFn.{length-map-range_with_len, get_or-map-range_with_len}
 use Rattle.std.proofs.lemmas.Bool.{cases_eq}
 use Rattle.std.proofs.lemmas.Bool.Decides.{nat_tests}
 use Rattle.memory.specs.declared.Fault.{Fault}
-use Rattle.memory.specs.declared.Fault.TheVariants.{OutOfRange}
-use Rattle.memory.specs.Words.{accepted, fetched, stored}
+use Rattle.memory.specs.Words.{fetched, stored}
 use Rattle.memory.specs.Placed.{placed}
 
 pub length_placed : (f : ℕ → ℕ → ℕ) (ws : List ℕ) → length (placed f ws) ≡ length ws
@@ -33,19 +32,6 @@ placed_set f ws p w =
       | inl e ↦ grind (arith, length_placed, length-set, getD_placed, get_or-set_same)
       | inr ne ↦ grind (arith, length_placed, length-set, getD_placed, get_or-set_other)
     ])
-
--- what an answer says of the place
-pub accepted_in : {X : Type 0} (ws : List ℕ) (p : ℕ) (x : X) → p < length ws → accepted ws p x ≡ Ok x
-accepted_in ws p x h = grind (arith, nat_tests)
-
-pub accepted_out : {X : Type 0} (ws : List ℕ) (p : ℕ) (x : X) → length ws ≤ p → accepted ws p x ≡ Err OutOfRange
-accepted_out ws p x h = grind (arith, nat_tests)
-
-pub within : {X : Type 0} (ws : List ℕ) (p : ℕ) (x y : X) → Ok y ≡ accepted ws p x → (p < length ws) × (y ≡ x)
-within ws p x y e = (grind (arith, nat_tests), grind (arith, nat_tests))
-
-pub outside : {X : Type 0} (ws : List ℕ) (p : ℕ) (x : X) (d : Fault) → Err d ≡ accepted ws p x → (length ws ≤ p) × (d ≡ OutOfRange)
-outside ws p x d e = (grind (arith, nat_tests), grind (arith, nat_tests))
 
 -- a rule by places keeps the answers
 pub stored_placed : (f : ℕ → ℕ → ℕ) (ws : List ℕ) (p : ℕ) → stored (placed f ws) p ≡ stored ws p
