@@ -8,16 +8,19 @@ ghost use Rattle.digest.specs.Numbers.{fault_number};
 ghost use Rattle.sha256.specs.Message.{sha256};
 ghost use Rattle.vectors.specs.Wide.{wide_meaning};
 
+mod cases;
 mod messages;
 mod wide;
 
-use crate::messages::{examples, longer_messages, short_messages};
-use digest::{Fault, hmac, tag};
+use crate::cases::CASES;
+use crate::messages::MESSAGES;
+use digest::{Digest, Fault, hmac, tag};
 use sha256::{Sha256, hash};
 use std::io;
 use wide::WideFold;
 
 // HMAC over SHA-256, where SHA-256 is the standard's hash of a whole message.
+#[tactic(auto, using(sha256::proofs::Whole::hmac_streams))]
 fn hmac_sha256(key: &[u32; 8], text: &[u32]) -> Result<[u32; 8], Fault>
     ensures { elim result [ Ok t ↦ (16 + length text.now ≤ 65536) × (t ≡ hmac_of sha256 16 key.now text.now) | Err e ↦ (fault_number e ≡ 13) × (65536 < 16 + length text.now) ] }
 {
@@ -75,11 +78,7 @@ impl Score {
     ) -> io::Result<()> {
         match answer {
             Ok(words) => {
-                let shown = if expected.len() < 8 {
-                    &words[0..expected.len()]
-                } else {
-                    &words[0..8]
-                };
+                let shown = &words[..expected.len().min(8)];
                 show(rt, "answer  ", shown)?;
                 show(rt, "expected", expected)?;
                 self.count(rt, shown == expected)
@@ -111,110 +110,52 @@ impl Score {
     }
 }
 
-fn check_hash(
-    rt: &HostRuntime,
-    score: &mut Score,
-    what: &str,
-    message: &[u32],
-    expected: &[u32],
-) -> io::Result<()> {
-    println!(rt; "SHA-256 of {what}")?;
-    score.compare(rt, hash(message), expected)
-}
-
-fn check_hmac(
-    rt: &HostRuntime,
-    score: &mut Score,
-    what: &str,
-    key: &[u32; 8],
-    text: &[u32],
-    expected: &[u32],
-) -> io::Result<()> {
-    println!(rt; "HMAC over SHA-256: {what}")?;
-    score.compare(rt, hmac_sha256(key, text), expected)
-}
-
-// The cases of RFC 4231 with a key of at most eight words and a text of whole words.
-fn tags(rt: &HostRuntime, score: &mut Score) -> io::Result<()> {
-    check_hmac(
-        rt,
-        score,
-        "RFC 4231, case 1",
-        &[
-            0x0b0b0b0b, 0x0b0b0b0b, 0x0b0b0b0b, 0x0b0b0b0b, 0x0b0b0b0b, 0x00000000, 0x00000000,
-            0x00000000,
-        ],
-        &[0x48692054, 0x68657265],
-        &[
-            0xb0344c61, 0xd8db3853, 0x5ca8afce, 0xaf0bf12b, 0x881dc200, 0xc9833da7, 0x26e9376c,
-            0x2e32cff7,
-        ],
-    )?;
-    check_hmac(
-        rt,
-        score,
-        "RFC 4231, case 2",
-        &[
-            0x4a656665, 0x00000000, 0x00000000, 0x00000000, 0x00000000, 0x00000000, 0x00000000,
-            0x00000000,
-        ],
-        &[
-            0x77686174, 0x20646f20, 0x79612077, 0x616e7420, 0x666f7220, 0x6e6f7468, 0x696e673f,
-        ],
-        &[
-            0x5bdcc146, 0xbf60754e, 0x6a042426, 0x089575c7, 0x5a003f08, 0x9d273983, 0x9dec58b9,
-            0x64ec3843,
-        ],
-    )?;
-    check_hmac(
-        rt,
-        score,
-        "RFC 4231, case 5, the first four words",
-        &[
-            0x0c0c0c0c, 0x0c0c0c0c, 0x0c0c0c0c, 0x0c0c0c0c, 0x0c0c0c0c, 0x00000000, 0x00000000,
-            0x00000000,
-        ],
-        &[0x54657374, 0x20576974, 0x68205472, 0x756e6361, 0x74696f6e],
-        &[0xa3b61674, 0x73100ee0, 0x6e0c796c, 0x2955552b],
-    )
-}
+// The number of words that a digest takes.
+const MOST: usize = 65536;
 
 // The longest texts, and one word more.
 fn limits(rt: &HostRuntime, score: &mut Score, key: &[u32; 8]) -> io::Result<()> {
-    let zeros = [0; 65537];
-    println!(rt; "SHA-256 of 65536 zeros")?;
+    let zeros = [0; MOST + 1];
+    println!(rt; "SHA-256 of {MOST} zeros")?;
     score.compare(
         rt,
-        hash(&zeros[0..65536]),
+        hash(&zeros[..MOST]),
         &[
             0x8a39d2ab, 0xd3999ab7, 0x3c34db24, 0x76849cdd, 0xf303ce38, 0x9b358268, 0x50f9a700,
             0x589b4a90,
         ],
     )?;
-    println!(rt; "SHA-256 of 65537 zeros")?;
+    println!(rt; "SHA-256 of {} zeros", MOST + 1)?;
     score.declines(rt, hash(&zeros))?;
-    println!(rt; "HMAC over SHA-256 of 65520 zeros, block 16")?;
+    let block = Sha256::BLOCK;
+    let longest = MOST - block;
+    println!(rt; "HMAC over SHA-256 of {longest} zeros, block {block}")?;
     score.compare(
         rt,
-        hmac_sha256(key, &zeros[0..65520]),
+        hmac_sha256(key, &zeros[..longest]),
         &[
             0xdd4a1222, 0x7f3dcc86, 0x671bf44a, 0x240f5a09, 0xcce686ac, 0x73d777b4, 0x5df77df5,
             0x6c958dbf,
         ],
     )?;
-    println!(rt; "HMAC over SHA-256 of 65521 zeros, block 16")?;
-    score.declines(rt, hmac_sha256(key, &zeros[0..65521]))?;
-    println!(rt; "HMAC over the wide fold of 65502 zeros, block 34")?;
+    println!(rt; "HMAC over SHA-256 of {} zeros, block {block}", longest + 1)?;
+    score.declines(rt, hmac_sha256(key, &zeros[..=longest]))?;
+    let block = WideFold::BLOCK;
+    let longest = MOST - block;
+    println!(rt; "HMAC over the wide fold of {longest} zeros, block {block}")?;
     score.compare(
         rt,
-        hmac_wide(key, &zeros[0..65502]),
+        hmac_wide(key, &zeros[..longest]),
         &[
             0xd6565675, 0x56565612, 0xec6c6c5c, 0x6c6c6c2d, 0x5ddddd8c, 0xddddddbf, 0x5dddddaf,
             0xdddddd5e,
         ],
     )?;
-    println!(rt; "HMAC over the wide fold of 65503 zeros, block 34")?;
-    score.declines(rt, hmac_wide(key, &zeros[0..65503]))
+    println!(rt;
+        "HMAC over the wide fold of {} zeros, block {block}",
+        longest + 1
+    )?;
+    score.declines(rt, hmac_wide(key, &zeros[..=longest]))
 }
 
 fn main(rt: HostRuntime) -> io::Result<()> {
@@ -227,10 +168,14 @@ fn main(rt: HostRuntime) -> io::Result<()> {
         0x01020304, 0x02040608, 0x0306090c, 0x04080c10, 0x050a0f14, 0x060c1218, 0x070e151c,
         0x08101820,
     ];
-    examples(&rt, &mut score)?;
-    short_messages(&rt, &mut score)?;
-    longer_messages(&rt, &mut score)?;
-    tags(&rt, &mut score)?;
+    for message in MESSAGES {
+        println!(rt; "SHA-256 of {}", message.what)?;
+        score.compare(&rt, hash(message.words), &message.hash)?;
+    }
+    for case in CASES {
+        println!(rt; "HMAC over SHA-256: RFC 4231, {}", case.what)?;
+        score.compare(&rt, hmac_sha256(&case.key, case.text), case.tag)?;
+    }
     println!(rt; "tag over SHA-256 of a measurement and the word 7")?;
     let answer = tag(&mut Sha256::new(), &key, &measurement, 7);
     score.compare(
