@@ -5,7 +5,7 @@ ghost use Rattle.std.specs.Prelude.{◌≡◌, ℕ, ◌+◌, ◌-◌, ◌<◌, �
 ghost use Rattle.digest.specs.Fold.{fold_meaning, zeros};
 ghost use Rattle.digest.specs.Meaning.{Meaning, fed, hash, keyed, hmac};
 ghost use Rattle.digest.specs.Numbers.{fault_number};
-ghost use Rattle.std.proofs.Common.{rules, arith};
+ghost use Rattle.std.proofs.Common.{rules};
 
 // Why a word or a text is declined: more than 65,536 words in all.
 #[derive(Clone, Copy, PartialEq, Eq)]
