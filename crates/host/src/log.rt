@@ -1,5 +1,5 @@
 // The steps of the program, as it prints them.
-use board::Decline;
+use board::Answer;
 use std::fmt::Display;
 use std::io;
 
@@ -24,25 +24,18 @@ impl<'a> Log<'a> {
         }
     }
 
-    // A step whose answer has no word.
-    pub fn done<T: Display + Drop>(&mut self, step: T, answer: Result<(), Decline>) {
-        match answer {
-            Ok(()) => self.note(format_args!("{step}: 0")),
-            Err(decline) => self.declined(step, decline),
+    // A step with its answer. This host reads no map and attests nothing, so no answer has more than one word.
+    pub fn step<T: Display + Drop, A: Into<Answer>>(&mut self, step: T, answer: A) {
+        match answer.into() {
+            Answer::Word(word) => self.note(format_args!("{step}: 0, word {word:08x}")),
+            Answer::Declined(decline) => {
+                let number = decline.number();
+                self.note(format_args!("{step}: {number}, declined"));
+            }
+            Answer::Done | Answer::Mapped(_) | Answer::Attested(_) => {
+                self.note(format_args!("{step}: 0"));
+            }
         }
-    }
-
-    // A step whose answer has one word.
-    pub fn word<T: Display + Drop>(&mut self, step: T, answer: Result<u32, Decline>) {
-        match answer {
-            Ok(word) => self.note(format_args!("{step}: 0, word {word:08x}")),
-            Err(decline) => self.declined(step, decline),
-        }
-    }
-
-    fn declined<T: Display + Drop>(&mut self, step: T, decline: Decline) {
-        let number = decline.number();
-        self.note(format_args!("{step}: {number}, declined"));
     }
 
     // What came of the printing.

@@ -15,65 +15,62 @@ use tenants::*;
 
 // The host maps its page 2 and leaves a program there for tenant A.
 fn prepare<M: Memory, D: Digest>(log: &mut Log, monitor: &mut Monitor<M, D>) {
-    let answer = monitor.write_map(0, 2, 2, READ_WRITE);
-    log.done("The host maps its page 2 to frame 2, permission 3", answer);
-    let answer = monitor.store(128, 0x0000_c0de);
-    log.done(
-        "The host stores 0000c0de at address 128, on that page",
-        answer,
+    log.step(
+        "The host maps its page 2 to frame 2, permission 3",
+        monitor.write_map(0, 2, 2, READ_WRITE),
     );
-    let answer = monitor.load(128);
-    log.word("The host loads address 128", answer);
+    log.step(
+        "The host stores 0000c0de at address 128, on that page",
+        monitor.store(128, 0x0000_c0de),
+    );
+    log.step("The host loads address 128", monitor.load(128));
 }
 
 // Tenant A starts, reads its program, and leaves a word in a register and on its second page.
 fn work<M: Memory, D: Digest>(log: &mut Log, monitor: &mut Monitor<M, D>) {
-    let answer = monitor.enter(A);
-    log.done("The host enters enclave 1", answer);
-    let answer = monitor.fetch(640);
-    log.word("Enclave 1 fetches address 640, where it starts", answer);
-    let answer = monitor.write_register(0, 0x0000_0007);
-    log.done("Enclave 1 writes 00000007 to register 0", answer);
-    let answer = monitor.store(704, 0x005e_c4e7);
-    log.done(
-        "Enclave 1 stores 005ec4e7 at address 704, on its page 11",
-        answer,
+    log.step("The host enters enclave 1", monitor.enter(A));
+    log.step(
+        "Enclave 1 fetches address 640, where it starts",
+        monitor.fetch(640),
     );
-    let answer = monitor.load(704);
-    log.word("Enclave 1 loads address 704", answer);
+    log.step(
+        "Enclave 1 writes 00000007 to register 0",
+        monitor.write_register(0, 0x0000_0007),
+    );
+    log.step(
+        "Enclave 1 stores 005ec4e7 at address 704, on its page 11",
+        monitor.store(704, 0x005e_c4e7),
+    );
+    log.step("Enclave 1 loads address 704", monitor.load(704));
 }
 
 // While A is paused, the host sees neither its registers nor its pages.
 fn interrupt<M: Memory, D: Digest>(log: &mut Log, monitor: &mut Monitor<M, D>) {
-    let answer = monitor.pause();
-    log.done("The host pauses enclave 1", answer);
-    let answer = monitor.read_register(0);
-    log.word("The host reads register 0", answer);
-    let answer = monitor.load(128);
-    log.word(
+    log.step("The host pauses enclave 1", monitor.pause());
+    log.step("The host reads register 0", monitor.read_register(0));
+    log.step(
         "The host loads address 128, on the page that is enclave 1's now",
-        answer,
+        monitor.load(128),
     );
-    let answer = monitor.resume(A);
-    log.done("The host resumes enclave 1", answer);
-    let answer = monitor.read_register(0);
-    log.word("Enclave 1 reads register 0", answer);
-    let answer = monitor.exit();
-    log.done("Enclave 1 exits", answer);
+    log.step("The host resumes enclave 1", monitor.resume(A));
+    log.step("Enclave 1 reads register 0", monitor.read_register(0));
+    log.step("Enclave 1 exits", monitor.exit());
 }
 
 // A is destroyed, and the host looks at the pages that it gets back.
 fn destroy<M: Memory, D: Digest>(log: &mut Log, monitor: &mut Monitor<M, D>) {
-    let answer = monitor.destroy(A);
-    log.done("The host destroys enclave 1", answer);
-    let answer = monitor.write_map(0, 3, 3, READ_WRITE);
-    log.done("The host maps its page 3 to frame 3, permission 3", answer);
-    let answer = monitor.load(128);
-    log.word("The host loads address 128, where its program was", answer);
-    let answer = monitor.load(192);
-    log.word(
+    log.step("The host destroys enclave 1", monitor.destroy(A));
+    log.step(
+        "The host maps its page 3 to frame 3, permission 3",
+        monitor.write_map(0, 3, 3, READ_WRITE),
+    );
+    log.step(
+        "The host loads address 128, where its program was",
+        monitor.load(128),
+    );
+    log.step(
         "The host loads address 192, where enclave 1 left its word",
-        answer,
+        monitor.load(192),
     );
     let empty = is_empty(monitor, 128) && is_empty(monitor, 192);
     log.note(if empty {
@@ -85,14 +82,7 @@ fn destroy<M: Memory, D: Digest>(log: &mut Log, monitor: &mut Monitor<M, D>) {
 
 // Whether the 64 words from an address on can be loaded, and are 0.
 fn is_empty<M: Memory, D: Digest>(monitor: &mut Monitor<M, D>, address: u16) -> bool {
-    let mut empty = true;
-    for word in 0..64u16 {
-        match monitor.load(address.wrapping_add(word)) {
-            Ok(0) => {}
-            _ => empty = false,
-        }
-    }
-    empty
+    (0..64u16).all(|word| matches!(monitor.load(address.wrapping_add(word)), Ok(0)))
 }
 
 fn main(rt: HostRuntime) -> io::Result<()> {

@@ -1,5 +1,5 @@
 // The two tenants, built through drafts.
-ghost use Rattle.std.specs.Prelude.{◌≡◌, Some, None};
+ghost use Rattle.std.specs.Prelude.{◌≡◌, IfSome};
 
 use crate::log::Log;
 use digest::Digest;
@@ -26,19 +26,17 @@ fn open<M: Memory, D: Digest>(
     count: u8,
     entrypoint: u16,
 ) -> Option<Draft>
-    ensures { elim result [ Some d ↦ d.number ≡ enclave | None ↦ Unit {0} ] }
+    ensures { IfSome result (λ d. d.number ≡ enclave) }
 {
-    let (draft, answer) = match Draft::open(monitor, enclave, first, count, entrypoint) {
-        Ok(draft) => (Some(draft), Ok(())),
-        Err(decline) => (None, Err(decline)),
-    };
-    log.done(
+    let opened = Draft::open(monitor, enclave, first, count, entrypoint);
+    let answer = opened.as_ref().map(|_| ()).map_err(|decline| *decline);
+    log.step(
         format_args!(
             "The host opens enclave {enclave}: {count} pages from page {first} on, start at address {entrypoint}"
         ),
         answer,
     );
-    draft
+    opened.ok()
 }
 
 fn add<M: Memory, D: Digest>(
@@ -53,7 +51,7 @@ fn add<M: Memory, D: Digest>(
 {
     let (draft, answer) = draft.add(monitor, page, frame, permission);
     let enclave = draft.number();
-    log.done(
+    log.step(
         format_args!(
             "The host adds frame {frame} to enclave {enclave} as page {page}, permission {permission}"
         ),
@@ -65,18 +63,16 @@ fn add<M: Memory, D: Digest>(
 fn abandon<M: Memory, D: Digest>(log: &mut Log, monitor: &mut Monitor<M, D>, draft: Draft) {
     let enclave = draft.number();
     let answer = draft.abandon(monitor);
-    log.done(format_args!("The host abandons enclave {enclave}"), answer);
+    log.step(format_args!("The host abandons enclave {enclave}"), answer);
 }
 
 // Finishes a draft, or abandons it where that is declined.
 fn finish<M: Memory, D: Digest>(log: &mut Log, monitor: &mut Monitor<M, D>, draft: Draft) {
     let enclave = draft.number();
-    let (back, answer) = match draft.finish(monitor) {
-        Ok(()) => (None, Ok(())),
-        Err((draft, decline)) => (Some(draft), Err(decline)),
-    };
-    log.done(format_args!("The host finishes enclave {enclave}"), answer);
-    if let Some(draft) = back {
+    let finished = draft.finish(monitor);
+    let answer = finished.as_ref().copied().map_err(|(_, decline)| *decline);
+    log.step(format_args!("The host finishes enclave {enclave}"), answer);
+    if let Err((draft, _)) = finished {
         abandon(log, monitor, draft);
     }
 }
