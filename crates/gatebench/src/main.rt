@@ -45,37 +45,31 @@ fn map_all<M: Memory, D: Digest>(monitor: &mut Monitor<M, D>) {
 }
 
 fn asked(rt: &HostRuntime) -> anyhow::Result<u32> {
-    match env::args(rt)?.skip(1).next() {
+    match env::args(rt)?.nth(1) {
         Some(text) => Ok(text.parse::<u32>()?),
         None => Ok(2),
     }
 }
 
-// What was done goes to the standard output, the milliseconds since `start` to the standard error.
-fn tell(rt: &HostRuntime, what: &str, res: u32, start: Instant) -> anyhow::Result<()> {
-    let time = start.elapsed(rt)?.as_millis();
+// Times what `work` does. What was done goes to the standard output, its milliseconds to the standard error.
+fn timed<F: FnOnce() -> u32>(rt: &HostRuntime, what: &str, work: F) -> anyhow::Result<()>
+    requires { F.IsAlwaysCallable work }
+{
+    let start = Instant::now(rt)?;
+    let res = work();
+    let elapsed = start.elapsed(rt)?.as_millis();
     println!(rt; "{what}: {res:08x}")?;
-    eprintln!(rt; "{what}: {time} ms")?;
+    eprintln!(rt; "{what}: {elapsed} ms")?;
     Ok(())
-}
-
-fn bench<M: Memory, D: Digest>(
-    rt: &HostRuntime,
-    monitor: &mut Monitor<M, D>,
-    rounds: u32,
-) -> anyhow::Result<()> {
-    map_all(monitor);
-    let start = Instant::now(rt)?;
-    let sum = accesses(monitor, rounds);
-    tell(rt, "sum of rounds of 2048 stores and loads", sum, start)?;
-    let start = Instant::now(rt)?;
-    let whole = lives(monitor, rounds);
-    tell(rt, "lives of 32 pages", whole, start)
 }
 
 fn main(rt: HostRuntime) -> anyhow::Result<()> {
     let mut words = [0u32; 4096];
     let mut monitor = Monitor::new(WordMemory::new(&mut words), Sha256::new(), [0; 8]);
     let rounds = asked(&rt)?;
-    bench(&rt, &mut monitor, rounds)
+    map_all(&mut monitor);
+    timed(&rt, "sum of rounds of 2048 stores and loads", || {
+        accesses(&mut monitor, rounds)
+    })?;
+    timed(&rt, "lives of 32 pages", || lives(&mut monitor, rounds))
 }
