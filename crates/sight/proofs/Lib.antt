@@ -1,5 +1,4 @@
 pub mod Watching
-pub mod Same
 pub mod Apart
 mod Verdicts
 mod Placing

@@ -24,6 +24,7 @@ impl<'a, T> Marked<'a, T> {
 pub trait Place: Copy {
     ghost alike: { Self × Bool → Self × Bool → Bool };
 
+    // Whether two of them, each with its mark, count as the same.
     fn is_alike(self, mark: bool, other: Self, other_mark: bool) -> bool
         ensures { result ≡ alike (self, mark) (other, other_mark) };
 }
