@@ -20,7 +20,7 @@ impl<'a, T> Marked<'a, T> {
     }
 }
 
-// What can stand at a place of a run.
+// What can stand at a place of a run. A trait and no closure, since its contract speaks of values of the type alone.
 pub trait Place: Copy {
     ghost alike: { Self × Bool → Self × Bool → Bool };
 
