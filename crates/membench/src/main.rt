@@ -49,42 +49,36 @@ fn held(area: &mut [u32], load: Load) -> u32 {
 // The program's two arguments: the rounds, of 2,048 accesses each, and the stride. Without them, 2 rounds by rising places.
 fn asked(rt: &HostRuntime) -> anyhow::Result<Load> {
     let mut args = env::args(rt)?.skip(1);
-    let rounds = match args.next() {
-        Some(text) => text.parse::<u32>()?,
-        None => 2,
-    };
-    let stride = match args.next() {
-        Some(text) => text.parse::<u32>()?,
-        None => 1,
-    };
+    let rounds = args.next().map_or(Ok(2), |text| text.parse())?;
+    let stride = args.next().map_or(Ok(1), |text| text.parse())?;
     Ok(Load { rounds, stride })
 }
 
-// The sums go to the standard output, the milliseconds to the standard error.
+// The sum of a run goes to the standard output, its milliseconds to the standard error.
+fn timed<F: FnOnce() -> u32>(rt: &HostRuntime, what: &str, run: F) -> anyhow::Result<()>
+    requires { F.pre run }
+{
+    let start = Instant::now(rt)?;
+    let sum = run();
+    let time = start.elapsed(rt)?.as_millis();
+    println!(rt; "{what}: {sum:08x}")?;
+    eprintln!(rt; "{what}: {time} ms")?;
+    Ok(())
+}
+
 fn main(rt: HostRuntime) -> anyhow::Result<()> {
     let load = asked(&rt)?;
     let Load { rounds, stride } = load;
     println!(rt; "{rounds} rounds of 2048 accesses, stride {stride}")?;
-
-    let mut area = [0u32; 1024];
-    let start = Instant::now(&rt)?;
-    let sum = words(&mut area, load);
-    let time = start.elapsed(&rt)?.as_millis();
-    println!(rt; "word memory: {sum:08x}")?;
-    eprintln!(rt; "word memory: {time} ms")?;
-
-    let mut area = [0u32; 1024];
-    let start = Instant::now(&rt)?;
-    let sum = scrambled(&mut area, load);
-    let time = start.elapsed(&rt)?.as_millis();
-    println!(rt; "scrambler over word memory: {sum:08x}")?;
-    eprintln!(rt; "scrambler over word memory: {time} ms")?;
-
-    let mut area = [0u32; 1024];
-    let start = Instant::now(&rt)?;
-    let sum = held(&mut area, load);
-    let time = start.elapsed(&rt)?.as_millis();
-    println!(rt; "line holder over scrambler over word memory: {sum:08x}")?;
-    eprintln!(rt; "line holder over scrambler over word memory: {time} ms")?;
-    Ok(())
+    timed(&rt, "word memory", || words(&mut [0; 1024], load))?;
+    timed(
+        &rt,
+        "scrambler over word memory",
+        || scrambled(&mut [0; 1024], load),
+    )?;
+    timed(
+        &rt,
+        "line holder over scrambler over word memory",
+        || held(&mut [0; 1024], load),
+    )
 }

@@ -78,25 +78,15 @@ fn steps() -> [Step; STEPS] {
 }
 
 fn take<M: Memory>(memory: &mut M, step: Step) -> Answer {
-    match step {
-        Step::Read(place) => match memory.read(place) {
-            Ok(word) => Answer::Word(word),
-            Err(fault) => Answer::Declined(fault.number()),
-        },
-        Step::Write(place, word) => match memory.write(place, word) {
-            Ok(()) => Answer::Accepted,
-            Err(fault) => Answer::Declined(fault.number()),
-        },
-    }
+    let answer = match step {
+        Step::Read(place) => memory.read(place).map(Answer::Word),
+        Step::Write(place, word) => memory.write(place, word).map(|()| Answer::Accepted),
+    };
+    answer.unwrap_or_else(|fault| Answer::Declined(fault.number()))
 }
 
 fn run<M: Memory>(memory: &mut M) -> [Answer; STEPS] {
-    let steps = steps();
-    let mut answers = [Answer::Accepted; STEPS];
-    for (answer, step) in answers.iter_mut().zip(steps.iter()) {
-        *answer = take(memory, *step);
-    }
-    answers
+    steps().map(|step| take(memory, step))
 }
 
 // Gives every memory the same words at first.
@@ -108,35 +98,17 @@ fn fill<M: Memory>(memory: &mut M) {
 
 // The words as the bytes of an image, the highest first.
 fn image_of(words: &[u32; SIZE]) -> [u8; BYTES] {
-    let mut image = [0u8; BYTES];
-    for (place, word) in words.iter().enumerate() {
-        let bytes = word.to_be_bytes();
-        image[place * 4] = bytes[0];
-        image[place * 4 + 1] = bytes[1];
-        image[place * 4 + 2] = bytes[2];
-        image[place * 4 + 3] = bytes[3];
+    let mut image = [0; BYTES];
+    let (chunks, _) = image.as_chunks_mut();
+    for (bytes, word) in chunks.iter_mut().zip(words) {
+        *bytes = word.to_be_bytes();
     }
     image
 }
 
-// The answers of a memory, and of each pile of layers over it.
-fn bare<M: Memory + Drop>(mut memory: M) -> [Answer; STEPS] {
-    run(&mut memory)
-}
-
-fn scrambled<M: Memory + Drop>(below: M) -> [Answer; STEPS] {
-    run(&mut Scrambler::new(below, KEY))
-}
-
+// The answers of a line holder over a memory, and of a scrambler over that.
 fn held<M: Memory + Drop>(below: M) -> [Answer; STEPS] {
     let mut memory = LineHolder::new(below);
-    let answers = run(&mut memory);
-    drop(memory.end());
-    answers
-}
-
-fn held_scrambled<M: Memory + Drop>(below: M) -> [Answer; STEPS] {
-    let mut memory = LineHolder::new(Scrambler::new(below, KEY));
     let answers = run(&mut memory);
     drop(memory.end());
     answers
@@ -169,21 +141,7 @@ fn write_scrambled<'a>(area: &'a mut [u32], key: u32, place: usize, word: u32) -
 
 // The word at a place of a slice, or 0 past its end.
 fn word_at(area: &[u32], place: usize) -> u32 {
-    match area.get(place) {
-        Some(word) => *word,
-        None => 0,
-    }
-}
-
-// How many of the piles give that answer at that step.
-fn agreeing(piles: &[[Answer; STEPS]; PILES], step: usize, answer: Answer) -> usize {
-    let mut count = 0;
-    for answers in piles.iter() {
-        if answers.get(step) == Some(&answer) {
-            count += 1;
-        }
-    }
-    count
+    area.get(place).copied().unwrap_or(0)
 }
 
 fn print_answers(rt: &HostRuntime, piles: &[[Answer; STEPS]; PILES]) -> io::Result<()> {
@@ -192,18 +150,18 @@ fn print_answers(rt: &HostRuntime, piles: &[[Answer; STEPS]; PILES]) -> io::Resu
     println!(rt;
         "  5 line holder over 1, 6 line holder over 2, 7 line holder over 4, 8 scrambler over 5"
     )?;
-    for (i, step) in steps().iter().enumerate() {
-        let answer = piles[0][i];
-        let count = agreeing(piles, i, answer);
+    let [first, ..] = piles;
+    for (i, (step, answer)) in steps().iter().zip(first).enumerate() {
+        let count = piles.iter().filter(|answers| answers[i] == *answer).count();
         println!(rt; "{step}: {answer}, from {count} of {PILES}")?;
     }
     Ok(())
 }
 
 // The word at a place of the slice of each pile.
-fn print_words(rt: &HostRuntime, words: [u32; PILES]) -> io::Result<()> {
-    for (i, word) in words.iter().enumerate() {
-        let pile = i + 1;
+fn print_words(rt: &HostRuntime, areas: &[[u32; SIZE]; PILES], place: usize) -> io::Result<()> {
+    for (pile, area) in (1..=PILES).zip(areas) {
+        let word = word_at(area, place);
         println!(rt; "  pile {pile}: {word:08x}")?;
     }
     Ok(())
@@ -229,34 +187,25 @@ fn main(rt: HostRuntime) -> io::Result<()> {
     let plain_image = image_of(&plain);
     let padded_image = image_of(&padded);
 
-    let mut a = plain;
-    let mut b = [0u32; SIZE];
-    let mut c = padded;
-    let mut d = [0u32; SIZE];
-    let mut e = plain;
-    let mut f = [0u32; SIZE];
-    let mut g = [0u32; SIZE];
-    let mut h = padded;
+    let blank = [0; SIZE];
+    let mut areas = [plain, blank, padded, blank, plain, blank, blank, padded];
     let piles = [
-        bare(WordMemory::new(&mut a)),
-        bare(ImageMemory::new(&plain_image, &mut b)),
-        scrambled(WordMemory::new(&mut c)),
-        scrambled(ImageMemory::new(&padded_image, &mut d)),
-        held(WordMemory::new(&mut e)),
-        held(ImageMemory::new(&plain_image, &mut f)),
-        held_scrambled(ImageMemory::new(&padded_image, &mut g)),
-        scrambled_held(WordMemory::new(&mut h)),
+        run(&mut WordMemory::new(&mut areas[0])),
+        run(&mut ImageMemory::new(&plain_image, &mut areas[1])),
+        run(&mut Scrambler::new(WordMemory::new(&mut areas[2]), KEY)),
+        run(&mut Scrambler::new(ImageMemory::new(&padded_image, &mut areas[3]), KEY)),
+        held(WordMemory::new(&mut areas[4])),
+        held(ImageMemory::new(&plain_image, &mut areas[5])),
+        held(Scrambler::new(ImageMemory::new(&padded_image, &mut areas[6]), KEY)),
+        scrambled_held(WordMemory::new(&mut areas[7])),
     ];
     print_answers(&rt, &piles)?;
     println!(rt; "Place 3 of the slices afterwards:")?;
-    print_words(&rt, [a[3], b[3], c[3], d[3], e[3], f[3], g[3], h[3]])?;
+    print_words(&rt, &areas, 3)?;
     println!(rt;
         "Place 70, on a page that was only read. A held line is written down, changed or not,"
     )?;
     println!(rt; "so the area of an image memory has the page below a line holder, and else not:")?;
-    print_words(
-        &rt,
-        [a[70], b[70], c[70], d[70], e[70], f[70], g[70], h[70]],
-    )?;
+    print_words(&rt, &areas, 70)?;
     print_ways_back(&rt)
 }
