@@ -10,7 +10,7 @@ use crate::Questions;
 use crate::ask::ask;
 use board::*;
 
-// The rights are bits of an entry's permission. They are bytes, as it is, since any byte may be asked for.
+// Rights, as bits of an entry's permission. They are bytes, since a narrower type would take fewer than the contract does.
 pub const READ: u8 = 1;
 
 pub const WRITE: u8 = 2;

@@ -1,5 +1,5 @@
 // The questions that are put to each call, in rising order: the first no declines it.
-ghost use Rattle.std.specs.Prelude.{◌≡◌, not, [], ◌∷◌, if◌then◌else◌, Ok, Err, is_ok, IfOk, IfErr, ◌==◌, nat_eq, nat_lt};
+ghost use Rattle.std.specs.Prelude.{◌≡◌, not, [], ◌∷◌, if◌then◌else◌, Ok, Err, is_ok, IfOk, IfErr, ◌&&◌, ◌==◌, nat_eq, nat_le, nat_lt};
 ghost use Rattle.board.specs.declared.Phase.TheVariants.{Ready};
 ghost use Rattle.board.specs.declared.Call.TheVariants.{Open, Add, Finish, ReadMap, WriteMap};
 ghost use Rattle.board.specs.State.{enclave_of, entry_of};
@@ -25,6 +25,13 @@ fn is_enclave(number: u8) -> bool
     ensures { result ≡ is_enclave_number number }
 {
     (1..=8).contains(&number)
+}
+
+// Whether there is such a page, and such an entry for it.
+fn is_entry(page: u8, frame: u8, permission: u8) -> bool
+    ensures { result ≡ (nat_lt page 64 && (nat_lt frame 64 && nat_le permission 7)) }
+{
+    page < 64 && frame < 64 && permission <= 7
 }
 
 impl Questions<'_> {
@@ -84,7 +91,7 @@ impl Questions<'_> {
         self.ask_host()?;
         ask(is_enclave(number), Decline::OutOfLimits)?;
         ask(
-            page < 64 && frame < 64 && (1..=7).contains(&permission),
+            permission != 0 && is_entry(page, frame, permission),
             Decline::OutOfLimits,
         )?;
         let _ = self.ask_phase(
@@ -177,9 +184,8 @@ impl Questions<'_> {
         ensures { Ruled (asked self.now (WriteMap party page frame permission)) tt result }
     {
         self.ask_host()?;
-        ask(party <= 8, Decline::OutOfLimits)?;
         ask(
-            page < 64 && frame < 64 && permission <= 7,
+            party <= 8 && is_entry(page, frame, permission),
             Decline::OutOfLimits,
         )?;
         self.may_use_map(
