@@ -8,7 +8,7 @@ use crate::Monitor;
 use board::*;
 use digest::Digest;
 use memory::Memory;
-use questions::{READ, WRITE};
+use questions::{READ, WRITE, may_use_register};
 
 impl<M: Memory, D: Digest> Monitor<M, D> {
     // The word at an address of the running party.
@@ -43,14 +43,14 @@ impl<M: Memory, D: Digest> Monitor<M, D> {
     pub fn read_register(&mut self, number: u8) -> Result<u32, Decline>
         ensures { Does M.Memory D.meaning (ReadRegister number) self.old (reply_by one_word result) self.new }
     {
-        self.questions().may_use_register(number)?;
+        may_use_register(self.memory.size(), number)?;
         Ok(self.board.register(number))
     }
 
     pub fn write_register(&mut self, number: u8, word: u32) -> Result<(), Decline>
         ensures { Does M.Memory D.meaning (WriteRegister number word) self.old (reply_by no_words result) self.new }
     {
-        self.questions().may_use_register(number)?;
+        may_use_register(self.memory.size(), number)?;
         self.board.set_register(number, word);
         Ok(())
     }

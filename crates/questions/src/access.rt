@@ -7,7 +7,7 @@ ghost use Rattle.questions.specs.Ruled.{Ruled};
 ghost use Rattle.questions.specs.Asked.{asked};
 
 use crate::Questions;
-use crate::ask::ask;
+use crate::ask::{ask, ask_size};
 use board::*;
 
 // Rights, as bits of an entry's permission. They are bytes, since a narrower type would take fewer than the contract does.
@@ -46,7 +46,7 @@ impl Questions<'_> {
     pub fn reach_data(&self, address: u16, right: u8) -> Result<usize, Decline>
         ensures { Ruled (ask 1 (self.now.size == 4096) ∷ ask 3 (nat_lt address 4096) ∷ access_questions self.now.board.now right address) (place_of self.now.board.now address) result }
     {
-        self.ask_size()?;
+        ask_size(self.size)?;
         ask(address < 4096, Decline::OutOfLimits)?;
         self.reach(address, right)
     }
@@ -55,7 +55,7 @@ impl Questions<'_> {
     pub fn reach_code(&self, address: u16) -> Result<usize, Decline>
         ensures { Ruled (asked self.now (Fetch address)) (place_of self.now.board.now address) result }
     {
-        self.ask_size()?;
+        ask_size(self.size)?;
         ask(address < 4096, Decline::OutOfLimits)?;
         ask(
             self.board.running == 0 || self.board.is_inside(self.board.running, address / 64),

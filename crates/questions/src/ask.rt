@@ -34,19 +34,27 @@ fn is_entry(page: u8, frame: u8, permission: u8) -> bool
     page < 64 && frame < 64 && permission <= 7
 }
 
-impl Questions<'_> {
-    // Question 1: the memory has so many words.
-    pub(crate) fn ask_size(&self) -> Result<(), Decline>
-        ensures { result ≡ (if nat_eq self.now.size 4096 then Ok tt else Err Decline.WrongMemory) }
-    {
-        ask(self.size == 4096, Decline::WrongMemory)
-    }
+// Question 1: the memory has so many words.
+pub(crate) fn ask_size(size: usize) -> Result<(), Decline>
+    ensures { result ≡ (if nat_eq size 4096 then Ok tt else Err Decline.WrongMemory) }
+{
+    ask(size == 4096, Decline::WrongMemory)
+}
 
+// Of a register call, which no part of the board decides.
+pub fn may_use_register(size: usize, number: u8) -> Result<(), Decline>
+    ensures { Ruled (ask 1 (size == 4096) ∷ ask 3 (nat_lt number 8) ∷ []) tt result }
+{
+    ask_size(size)?;
+    ask(number < 8, Decline::OutOfLimits)
+}
+
+impl Questions<'_> {
     // Questions 1 and 2 of a call that needs the host.
     fn ask_host(&self) -> Result<(), Decline>
         ensures { result ≡ (if nat_eq self.now.size 4096 then (if host_runs self.now.board.now then Ok tt else Err Decline.WrongParty) else Err Decline.WrongMemory) }
     {
-        self.ask_size()?;
+        ask_size(self.size)?;
         ask(self.board.running == 0, Decline::WrongParty)
     }
 
@@ -137,16 +145,8 @@ impl Questions<'_> {
     pub fn may_leave(&self) -> Result<(), Decline>
         ensures { Ruled (ask 1 (self.now.size == 4096) ∷ ask 2 (not (host_runs self.now.board.now)) ∷ []) tt result }
     {
-        self.ask_size()?;
+        ask_size(self.size)?;
         ask(self.board.running != 0, Decline::WrongParty)
-    }
-
-    // Of a register call.
-    pub fn may_use_register(&self, number: u8) -> Result<(), Decline>
-        ensures { Ruled (ask 1 (self.now.size == 4096) ∷ ask 3 (nat_lt number 8) ∷ []) tt result }
-    {
-        self.ask_size()?;
-        ask(number < 8, Decline::OutOfLimits)
     }
 
     // Questions 4 and 5 of a map call.

@@ -8,6 +8,7 @@ mod ask;
 pub mod phases;
 
 pub use crate::access::{READ, WRITE};
+pub use crate::ask::may_use_register;
 
 // The questions are put to a board, over a memory of so many words.
 #[derive(Clone, Copy)]
