@@ -89,7 +89,7 @@ impl<M: Memory, D: Digest> Monitor<M, D> {
         Ok(())
     }
 
-    // Removes a finished enclave.
+    // Removes a finished enclave. It differs from `abandon` in what is asked; what both do is `remove`.
     pub fn destroy(&mut self, enclave: u8) -> Result<(), Decline>
         ensures { Does M.Memory D.meaning (Destroy enclave) self.old (reply_by no_words result) self.new }
     {
