@@ -43,7 +43,8 @@ pub fn run_file<M: Memory, D: Digest + Drop>(
     }
 }
 
-// Makes the calls of two files to two new monitors with one key, and gives their answers and the memories.
+// Makes the calls of two files to two new monitors with one key, and gives their answers and the memories. Beside
+// `compare`, since its contract reaches from the bytes on.
 pub fn compare_files<M: Memory, N: Memory, D: Digest + Drop>(
     heap: Global,
     key: [u32; 8],

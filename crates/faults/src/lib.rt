@@ -4,7 +4,8 @@
 ghost use Rattle.std.specs.Prelude.{◌≡◌};
 ghost use Rattle.faults.specs.Faults.{fault_number, fault_place, fault_kind, no_room_number, admitted};
 
-// Why no record is read, with the place of its first byte. A file that is too long is not read at all.
+// Why no record is read, with the place of its first byte and the byte of kind, which need not be a known one. A file
+// that is too long is not read at all.
 #[derive(Clone, Copy, PartialEq, Eq)]
 pub enum ReadFault {
     TooLong,

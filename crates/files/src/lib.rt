@@ -13,6 +13,7 @@ mod kinds;
 pub use kinds::{AllButAttest, EveryKind, Kinds};
 
 // The calls of a file in order, the place of each record's first byte, and how many they are or the fault that ends them.
+// Two lists and not one of pairs, since a run takes calls alone.
 #[derive(Drop)]
 pub struct File {
     pub places: Vec<usize>,

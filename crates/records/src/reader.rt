@@ -6,7 +6,7 @@ ghost use Rattle.records.specs.Records.{recorded, lacking, parse, seen, Fits, Ba
 use board::Call;
 use faults::ReadFault;
 
-// How many bytes the body of a kind has.
+// How many bytes the body of a kind has. The kind is the byte itself, since every byte has an answer.
 fn body_length(kind: u8) -> Option<usize>
     ensures { result ≡ length_of_body kind }
 {

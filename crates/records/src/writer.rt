@@ -5,7 +5,7 @@ ghost use Rattle.records.specs.Records.{recorded, placed, counted, parse, Fits};
 use board::Call;
 use faults::NoRoom;
 
-// The byte of kind that a call's record begins with.
+// The byte of kind that a call's record begins with. An enum of kinds would list the seventeen calls once more.
 pub fn kind(call: Call) -> u8
     ensures { result ≡ kind_of call }
 {
