@@ -7,6 +7,8 @@ use Rattle.faults.specs.declared.ReadFault.TheVariants.{TooLong, UnknownKind}
 use Rattle.faults.specs.declared.RunFault.{RunFault}
 use Rattle.records.specs.Records.{Read, parse}
 use Rattle.files.specs.declared.File.{File}
+use Rattle.files.specs.declared.CutShort.{CutShort}
+use Rattle.files.specs.declared.CutShort.TheVariants.{First, Second}
 
 -- what is heard of bytes that begin at a place: kind 17 is not known here
 abbrev pub heard : ℕ → List ℕ → Read
@@ -91,3 +93,9 @@ run_off bs = cond (nat_le 2 (length bs)) (cut_off (256 * slice_index bs 0 + slic
 abbrev pub lent : Option (Bor (List ℕ) × Bor (List ℕ)) → Option (List ℕ × List ℕ)
 lent None = None
 lent (Some p) = Some (p.0.now, p.1.now)
+
+-- two runs one after the other, or the first of them that the bytes do not have whole
+abbrev pub TakesTwoRuns : List ℕ → Result (Bor (List ℕ) × Bor (List ℕ)) CutShort → Type 0
+TakesTwoRuns bs (Ok p) = (rest after : List ℕ) × (run_off bs ≡ Some (p.0.now, rest)) × (run_off rest ≡ Some (p.1.now, after))
+TakesTwoRuns bs (Err First) = run_off bs ≡ None
+TakesTwoRuns bs (Err Second) = (left rest : List ℕ) × (run_off bs ≡ Some (left, rest)) × (run_off rest ≡ None)

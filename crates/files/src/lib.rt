@@ -2,11 +2,13 @@
 #![tactic(auto)]
 
 ghost use Rattle.std.specs.Prelude.{◌≡◌, ◌+◌, ◌≤◌, ◌++◌, length, IfOk, vec_len, vec_capacity};
-ghost use Rattle.files.specs.Files.{filed_by, file_by, places_of, calls_of, ended, IsFiled, run_off, lent};
+ghost use Rattle.files.specs.Files.{filed_by, file_by, places_of, calls_of, ended, IsFiled, run_off, lent, TakesTwoRuns};
 
 use board::Call;
 use faults::*;
 use std::alloc::{AllocError, Global};
+use std::error::Error;
+use std::fmt;
 
 mod kinds;
 
@@ -74,4 +76,31 @@ pub fn take_run(bytes: &[u8]) -> Option<(&[u8], &[u8])>
         return None;
     };
     rest.split_at_checked(u16::from_be_bytes([*high, *low]).into())
+}
+
+// Which of two runs is cut short.
+#[derive(Clone, Copy, Debug, PartialEq, Eq)]
+pub enum CutShort {
+    First,
+    Second,
+}
+
+impl fmt::Display for CutShort {
+    fn fmt<W: fmt::Write>(&self, f: &mut fmt::Formatter<W>) -> fmt::Result {
+        match self {
+            CutShort::First => write!(f, "the first run is cut short"),
+            CutShort::Second => write!(f, "the second run is cut short"),
+        }
+    }
+}
+
+impl Error for CutShort {}
+
+// Two runs, each after its length, whatever stands after them.
+pub fn take_two_runs(bytes: &[u8]) -> Result<(&[u8], &[u8]), CutShort>
+    ensures { TakesTwoRuns bytes.now result }
+{
+    let (left, rest) = take_run(bytes).ok_or(CutShort::First)?;
+    let (right, _) = take_run(rest).ok_or(CutShort::Second)?;
+    Ok((left, right))
 }
