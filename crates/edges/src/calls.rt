@@ -4,7 +4,7 @@ use records::write;
 use std::alloc::AllocError;
 use std::fmt;
 
-// A call to be shown in words.
+// A call to be shown in words. A type of this program's own, since Display on Call would fix the words for every program.
 #[derive(Drop)]
 pub struct InWords(pub Call);
 
@@ -62,9 +62,7 @@ impl fmt::Display for InWords {
 pub fn push_record(bytes: &mut Vec<u8>, call: Call) -> Result<(), AllocError> {
     let mut buffer = [0u8; 7];
     if let Ok(length) = write(call, &mut buffer) {
-        for byte in buffer.iter().take(length) {
-            bytes.push(*byte)?;
-        }
+        bytes.extend_from_slice(&buffer[..length])?;
     }
     Ok(())
 }

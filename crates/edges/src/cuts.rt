@@ -28,14 +28,14 @@ fn make_lead(rt: &HostRuntime) -> anyhow::Result<Lead> {
     ];
     let mut bytes = Vec::new(heap);
     push_records(&mut bytes, &calls)?;
-    let log = log_of(heap, bytes.as_slice())?;
+    let log = log_of(heap, &bytes)?;
     Ok(Lead { bytes, log })
 }
 
 // Shows what a file's log adds to that of the lead.
 fn print_added(rt: &HostRuntime, lead: &Lead, bytes: &[u8]) -> anyhow::Result<()> {
     let log = log_of(rt.alloc(), bytes)?;
-    match log.as_str().strip_prefix(lead.log.as_str()) {
+    match log.strip_prefix(lead.log.as_str()) {
         Some("") => print!(rt; " nothing")?,
         Some(added) => {
             for line in added.lines() {
@@ -49,16 +49,16 @@ fn print_added(rt: &HostRuntime, lead: &Lead, bytes: &[u8]) -> anyhow::Result<()
 
 // The lead and a call, whole and then with one byte less each time, down to the kind byte.
 fn print_cuts_of(rt: &HostRuntime, lead: &Lead, call: Call) -> anyhow::Result<()> {
-    let mut bytes = Vec::from_slice(rt.alloc(), lead.bytes.as_slice())?;
+    let mut bytes = Vec::from_slice(rt.alloc(), &lead.bytes)?;
     push_record(&mut bytes, call)?;
     let body = bytes.len().saturating_sub(lead.bytes.len() + 1);
     let kind = kind(call);
     print!(rt; "  kind {kind}, body {body}:")?;
-    print_added(rt, lead, bytes.as_slice())?;
+    print_added(rt, lead, &bytes)?;
     for _ in 0..body {
         let _ = bytes.pop();
         print!(rt; " |")?;
-        print_added(rt, lead, bytes.as_slice())?;
+        print_added(rt, lead, &bytes)?;
     }
     println!(rt; "")?;
     Ok(())
@@ -66,11 +66,11 @@ fn print_cuts_of(rt: &HostRuntime, lead: &Lead, call: Call) -> anyhow::Result<()
 
 // The lead, a kind byte that is not known, and an exit that is never made.
 fn print_unknown(rt: &HostRuntime, lead: &Lead, kind: u8) -> anyhow::Result<()> {
-    let mut bytes = Vec::from_slice(rt.alloc(), lead.bytes.as_slice())?;
+    let mut bytes = Vec::from_slice(rt.alloc(), &lead.bytes)?;
     bytes.push(kind)?;
     bytes.push(8)?;
     print!(rt; "  kind {kind}:")?;
-    print_added(rt, lead, bytes.as_slice())?;
+    print_added(rt, lead, &bytes)?;
     println!(rt; "")?;
     Ok(())
 }
@@ -82,7 +82,7 @@ fn print_lead(rt: &HostRuntime, lead: &Lead) -> anyhow::Result<()> {
         println!(rt; "  {line}")?;
     }
     print!(rt; "A third record follows. With no byte of it there the log adds")?;
-    print_added(rt, lead, lead.bytes.as_slice())?;
+    print_added(rt, lead, &lead.bytes)?;
     println!(rt; ".")?;
     Ok(())
 }

@@ -10,31 +10,35 @@ fn print_ends(rt: &HostRuntime, log: &str) -> anyhow::Result<()> {
     Ok(())
 }
 
+// Shows a file by its length and what it is made of, and the ends of its log. Gives the log.
+fn print_file(rt: &HostRuntime, bytes: &[u8], made_of: &str) -> anyhow::Result<String> {
+    let count = bytes.len();
+    println!(rt; "A file of length {count}{made_of}:")?;
+    let log = log_of(rt.alloc(), bytes)?;
+    print_ends(rt, &log)?;
+    Ok(log)
+}
+
 // The log of a file of that many exits.
 fn print_exits(rt: &HostRuntime, count: usize) -> anyhow::Result<()> {
-    let heap = rt.alloc();
-    let bytes = vec![in heap; 8u8; count]?;
-    println!(rt; "A file of length {count}, every byte an exit by the host:")?;
-    print_ends(rt, log_of(heap, bytes.as_slice())?.as_str())
+    let bytes = vec![in rt.alloc(); 8u8; count]?;
+    print_file(rt, &bytes, ", every byte an exit by the host")?;
+    Ok(())
 }
 
 // The log of a file of the most bytes whose last byte begins a store that is not whole.
 fn print_cut_at_the_end(rt: &HostRuntime) -> anyhow::Result<()> {
-    let heap = rt.alloc();
-    let mut bytes = vec![in heap; 8u8; 32767]?;
+    let mut bytes = vec![in rt.alloc(); 8u8; 32767]?;
     bytes.push(11)?;
-    println!(rt; "A file of length 32768, 32767 exits and the kind byte of a store:")?;
-    print_ends(rt, log_of(heap, bytes.as_slice())?.as_str())
+    print_file(rt, &bytes, ", 32767 exits and the kind byte of a store")?;
+    Ok(())
 }
 
 // A file that is too long has the one line, whatever its records are.
 fn print_too_long(rt: &HostRuntime, count: usize) -> anyhow::Result<()> {
-    let heap = rt.alloc();
-    let bytes = vec![in heap; 8u8; count]?;
-    let log = log_of(heap, bytes.as_slice())?;
+    let bytes = vec![in rt.alloc(); 8u8; count]?;
+    let log = print_file(rt, &bytes, "")?;
     let alone = log.as_str() == "0 0 9\n";
-    println!(rt; "A file of length {count}:")?;
-    print_ends(rt, log.as_str())?;
     println!(rt; "  the log is the line 0 0 9 and nothing else: {alone}")?;
     Ok(())
 }

@@ -2,6 +2,7 @@
 use logs::run_file;
 use memory::{Memory, WordMemory};
 use monitor::Monitor;
+use runs::every::Ended;
 use sha256::Sha256;
 use std::alloc::{AllocError, Global};
 
@@ -9,19 +10,17 @@ use std::alloc::{AllocError, Global};
 pub const WORDS: usize = 4096;
 
 // The log over this memory, which is given back as the calls left it.
-pub fn log_over<M: Memory>(
-    heap: Global,
-    memory: M,
-    bytes: &[u8],
-) -> (Result<String, AllocError>, M) {
+pub fn log_over<M: Memory>(heap: Global, memory: M, bytes: &[u8]) -> Ended<M, String> {
     let mut monitor = Monitor::new(memory, Sha256::new(), [0; 8]);
-    let log = run_file(heap, &mut monitor, bytes);
-    (log, monitor.into_memory())
+    let result = run_file(heap, &mut monitor, bytes);
+    Ended {
+        memory: monitor.into_memory(),
+        result,
+    }
 }
 
 // The log over a word memory of zeros.
 pub fn log_of(heap: Global, bytes: &[u8]) -> Result<String, AllocError> {
     let mut words = vec![in heap; 0u32; WORDS]?;
-    let (log, _) = log_over(heap, WordMemory::new(words.as_mut_slice()), bytes);
-    log
+    log_over(heap, WordMemory::new(&mut words), bytes).result
 }

@@ -13,13 +13,10 @@ use lengths::print_lengths;
 use piles::print_piles;
 use writing::print_writing;
 
-fn run(rt: &HostRuntime) -> anyhow::Result<()> {
+fn main(rt: HostRuntime) -> anyhow::Result<()> {
+    let rt = &rt;
     print_lengths(rt)?;
     print_cuts(rt)?;
     print_writing(rt)?;
     print_piles(rt)
-}
-
-fn main(rt: HostRuntime) -> anyhow::Result<()> {
-    run(&rt)
 }

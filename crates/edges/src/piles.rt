@@ -5,22 +5,17 @@ use board::Call;
 use files::{AllButAttest, read_file};
 use holder::LineHolder;
 use memory::{ImageMemory, Memory, WordMemory};
+use runs::every::Ended;
 use scrambler::Scrambler;
 use std::alloc::{AllocError, Global};
 
 const KEY: u32 = 0x9e37_79b9;
 
 // The log of a run, and the words that it left in the memory.
-#[derive(Drop)]
+#[derive(Drop, PartialEq, Eq)]
 struct Outcome {
     log: String,
     words: Vec<u32>,
-}
-
-impl Outcome {
-    fn is_like(&self, other: &Outcome) -> bool {
-        self.log.as_str() == other.log.as_str() && self.words.as_slice() == other.words.as_slice()
-    }
 }
 
 // The words that a memory means.
@@ -34,11 +29,14 @@ fn words_of<M: Memory>(heap: Global, memory: &mut M) -> Result<Vec<u32>, AllocEr
     Ok(words)
 }
 
-// Runs the file over a memory that may be let go.
-fn over<M: Memory + Drop>(heap: Global, memory: M, bytes: &[u8]) -> Result<Outcome, AllocError> {
-    let (log, mut memory) = log_over(heap, memory, bytes);
+// What a run came to over a memory, which is let go.
+fn outcome_of<M: Memory + Drop>(
+    heap: Global,
+    run: Ended<M, String>,
+) -> Result<Outcome, AllocError> {
+    let Ended { mut memory, result } = run;
     Ok(Outcome {
-        log: log?,
+        log: result?,
         words: words_of(heap, &mut memory)?,
     })
 }
@@ -46,48 +44,41 @@ fn over<M: Memory + Drop>(heap: Global, memory: M, bytes: &[u8]) -> Result<Outco
 // Over a word memory of zeros.
 fn over_words(heap: Global, bytes: &[u8]) -> Result<Outcome, AllocError> {
     let mut area = vec![in heap; 0u32; WORDS]?;
-    over(heap, WordMemory::new(area.as_mut_slice()), bytes)
+    outcome_of(heap, log_over(heap, WordMemory::new(&mut area), bytes))
 }
 
 // Over an image of zeros. The area holds other words at first, and none of them is to be seen.
 fn over_image(heap: Global, bytes: &[u8]) -> Result<Outcome, AllocError> {
     let image = vec![in heap; 0u8; 16384]?;
     let mut area = vec![in heap; 0xa5a5_a5a5u32; WORDS]?;
-    over(
+    outcome_of(
         heap,
-        ImageMemory::new(image.as_slice(), area.as_mut_slice()),
-        bytes,
+        log_over(heap, ImageMemory::new(&image, &mut area), bytes),
     )
 }
 
-// Over a line holder over a scrambler over this memory. Zeros are written through the scrambler first, and the words are
-// read through it again when the holder is ended.
-fn over_held_scrambled<M: Memory + Drop>(
-    heap: Global,
-    below: M,
-    bytes: &[u8],
-) -> Result<Outcome, AllocError> {
-    let mut scrambler = Scrambler::new(below, KEY);
+// Over a line holder over a scrambler over a word memory. Zeros are written through the scrambler first, and the words
+// are read through it again when the holder is ended.
+fn over_layers(heap: Global, bytes: &[u8]) -> Result<Outcome, AllocError> {
+    let mut area = vec![in heap; 0u32; WORDS]?;
+    let mut scrambler = Scrambler::new(WordMemory::new(&mut area), KEY);
     for place in 0..WORDS {
         let _ = scrambler.write(place, 0);
     }
-    let (log, holder) = log_over(heap, LineHolder::new(scrambler), bytes);
-    let mut scrambler = holder.end();
-    Ok(Outcome {
-        log: log?,
-        words: words_of(heap, &mut scrambler)?,
-    })
-}
-
-fn over_layers(heap: Global, bytes: &[u8]) -> Result<Outcome, AllocError> {
-    let mut area = vec![in heap; 0u32; WORDS]?;
-    over_held_scrambled(heap, WordMemory::new(area.as_mut_slice()), bytes)
+    let Ended { memory, result } = log_over(heap, LineHolder::new(scrambler), bytes);
+    outcome_of(
+        heap,
+        Ended {
+            memory: memory.end(),
+            result,
+        },
+    )
 }
 
 // Shows each call of a file beside its line.
 fn print_calls(rt: &HostRuntime, bytes: &[u8], log: &str) -> anyhow::Result<()> {
     let calls = read_file::<AllButAttest>(rt.alloc(), bytes)?.calls;
-    for (call, line) in calls.as_slice().iter().zip(log.lines()) {
+    for (call, line) in calls.iter().zip(log.lines()) {
         let call = InWords(*call);
         println!(rt; "  {line}: {call}")?;
     }
@@ -98,16 +89,16 @@ fn print_calls(rt: &HostRuntime, bytes: &[u8], log: &str) -> anyhow::Result<()> 
 
 // Shows whether the other memories have the same log and words.
 fn print_likeness(rt: &HostRuntime, bytes: &[u8], plain: &Outcome) -> anyhow::Result<()> {
-    let image = over_image(rt.alloc(), bytes)?.is_like(plain);
+    let image = over_image(rt.alloc(), bytes)? == *plain;
     println!(rt; "  the same log and words over an image memory: {image}")?;
-    let layers = over_layers(rt.alloc(), bytes)?.is_like(plain);
+    let layers = over_layers(rt.alloc(), bytes)? == *plain;
     println!(rt; "  and over a line holder over a scrambler over a word memory: {layers}")?;
     Ok(())
 }
 
 fn print_run(rt: &HostRuntime, bytes: &[u8]) -> anyhow::Result<()> {
     let plain = over_words(rt.alloc(), bytes)?;
-    print_calls(rt, bytes, plain.log.as_str())?;
+    print_calls(rt, bytes, &plain.log)?;
     print_likeness(rt, bytes, &plain)
 }
 
@@ -312,7 +303,7 @@ fn long_run(heap: Global) -> Result<Vec<u8>, AllocError> {
 
 pub fn print_piles(rt: &HostRuntime) -> anyhow::Result<()> {
     println!(rt; "Nine records over a word memory, each line with its call:")?;
-    print_run(rt, nine_records(rt.alloc())?.as_slice())?;
+    print_run(rt, &nine_records(rt.alloc())?)?;
     println!(rt; "A life of enclave 3 and a draft of enclave 8, likewise:")?;
-    print_run(rt, long_run(rt.alloc())?.as_slice())
+    print_run(rt, &long_run(rt.alloc())?)
 }

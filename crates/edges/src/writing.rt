@@ -11,24 +11,17 @@ const FILL: u8 = 0xa5;
 
 // Whether all bytes from a place on are as they were at first.
 fn is_kept(buffer: &[u8], from: usize) -> bool {
-    for byte in buffer.iter().skip(from) {
-        if *byte != FILL {
-            return false;
-        }
-    }
-    true
+    buffer.iter().skip(from).all(|byte| *byte == FILL)
 }
 
 // Whether the buffer reads as a call that writes the same record, with so many bytes left after it.
 fn reads_back(buffer: &[u8; ROOM], left: usize) -> bool {
-    match read(buffer, 0) {
-        Ok(Some((call, rest))) => {
-            let mut again = [FILL; ROOM];
-            let _ = write(call, &mut again);
-            again == *buffer && rest.len() == left
-        }
-        _ => false,
-    }
+    let Ok(Some((call, rest))) = read(buffer, 0) else {
+        return false;
+    };
+    let mut again = [FILL; ROOM];
+    let _ = write(call, &mut again);
+    again == *buffer && rest.len() == left
 }
 
 fn print_long_buffer(rt: &HostRuntime, buffer: &[u8; ROOM], length: usize) -> anyhow::Result<()> {
@@ -45,8 +38,8 @@ fn print_long_buffer(rt: &HostRuntime, buffer: &[u8; ROOM], length: usize) -> an
 // Writes to a buffer of that many bytes, which is too short.
 fn print_short_buffer(rt: &HostRuntime, call: Call, room: usize) -> anyhow::Result<()> {
     let mut buffer = vec![in rt.alloc(); FILL; room]?;
-    let answer = write(call, buffer.as_mut_slice());
-    let kept = is_kept(buffer.as_slice(), 0);
+    let answer = write(call, &mut buffer);
+    let kept = is_kept(&buffer, 0);
     match answer {
         Ok(length) => println!(rt; "; to {room} bytes: {length} WRITTEN")?,
         Err(fault) => {
@@ -63,17 +56,13 @@ fn print_short_buffer(rt: &HostRuntime, call: Call, room: usize) -> anyhow::Resu
 fn print_written(rt: &HostRuntime, call: Call) -> anyhow::Result<()> {
     let kind = kind(call);
     let mut buffer = [FILL; ROOM];
-    match write(call, &mut buffer) {
-        Ok(length) => {
-            print!(rt; "  kind {kind}:")?;
-            print_long_buffer(rt, &buffer, length)?;
-            print_short_buffer(rt, call, length.saturating_sub(1))
-        }
-        Err(_) => {
-            println!(rt; "  kind {kind}: NOT WRITTEN")?;
-            Ok(())
-        }
-    }
+    let Ok(length) = write(call, &mut buffer) else {
+        println!(rt; "  kind {kind}: NOT WRITTEN")?;
+        return Ok(());
+    };
+    print!(rt; "  kind {kind}:")?;
+    print_long_buffer(rt, &buffer, length)?;
+    print_short_buffer(rt, call, length.saturating_sub(1))
 }
 
 pub fn print_writing(rt: &HostRuntime) -> anyhow::Result<()> {

@@ -4,8 +4,7 @@
 
 mod piles;
 
-use anyhow::anyhow;
-use files::take_run;
+use files::take_two_runs;
 use piles::{Outcome, over_images, over_words, over_words_and_layers};
 use std::io::Read;
 
@@ -14,13 +13,10 @@ const MOST: u64 = 131074;
 
 // How many lines of two logs differ.
 fn differing_lines(left: &str, right: &str) -> usize {
-    let mut count = 0usize;
-    for (one, other) in left.lines().zip(right.lines()) {
-        if one != other {
-            count = count.saturating_add(1);
-        }
-    }
-    count
+    left.lines()
+        .zip(right.lines())
+        .filter(|(one, other)| one != other)
+        .count()
 }
 
 fn print_outcome(
@@ -29,7 +25,7 @@ fn print_outcome(
     outcome: &Outcome,
     plain: &Outcome,
 ) -> anyhow::Result<()> {
-    let same = outcome.has_logs_of(plain);
+    let same = outcome.left == plain.left && outcome.right == plain.right;
     print!(rt; "over {over}: ")?;
     match outcome.other {
         None => print!(rt; "the runs differ only inward; ")?,
@@ -43,38 +39,29 @@ fn print_outcome(
     Ok(())
 }
 
-fn run(rt: &HostRuntime) -> anyhow::Result<()> {
+fn main(rt: HostRuntime) -> anyhow::Result<()> {
     let heap = rt.alloc();
     let mut bytes = Vec::new(heap);
     rt.stdin().take(MOST).read_to_end(&mut bytes)?;
-    let Some((left, rest)) = take_run(bytes.as_slice()) else {
-        return Err(anyhow!("the first run is cut short"));
-    };
-    let Some((right, _)) = take_run(rest) else {
-        return Err(anyhow!("the second run is cut short"));
-    };
+    let (left, right) = take_two_runs(&bytes)?;
     let plain = over_words(heap, left, right)?;
     let lines = plain.left.lines().count();
-    let apart = differing_lines(plain.left.as_str(), plain.right.as_str());
+    let apart = differing_lines(&plain.left, &plain.right);
     println!(rt;
         "two runs of {lines} lines; the enclave itself is answered otherwise in {apart} of them"
     )?;
     print!(rt; "the log of the first:\n{}", plain.left)?;
-    print_outcome(rt, "word memories", &plain, &plain)?;
+    print_outcome(&rt, "word memories", &plain, &plain)?;
     print_outcome(
-        rt,
+        &rt,
         "image memories",
         &over_images(heap, left, right)?,
         &plain,
     )?;
     print_outcome(
-        rt,
+        &rt,
         "a word memory and a line holder over a scrambler over a word memory",
         &over_words_and_layers(heap, left, right)?,
         &plain,
     )
-}
-
-fn main(rt: HostRuntime) -> anyhow::Result<()> {
-    run(&rt)
 }
