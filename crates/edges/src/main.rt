@@ -14,9 +14,8 @@ use piles::print_piles;
 use writing::print_writing;
 
 fn main(rt: HostRuntime) -> anyhow::Result<()> {
-    let rt = &rt;
-    print_lengths(rt)?;
-    print_cuts(rt)?;
-    print_writing(rt)?;
-    print_piles(rt)
+    print_lengths(&rt)?;
+    print_cuts(&rt)?;
+    print_writing(&rt)?;
+    print_piles(&rt)
 }

@@ -1,7 +1,9 @@
 // A pair of runs and its verdict, as they are printed.
-use crate::Pair;
+use compare::Pair;
+use compare::replay::Answered;
 use logs::log_text;
 use sight::Verdict;
+use std::iter;
 
 // A star before the line of an answer that is the enclave's alone.
 fn star(marks: &[bool], place: usize) -> &str {
@@ -12,16 +14,20 @@ fn star(marks: &[bool], place: usize) -> &str {
 }
 
 // Both logs line by line, each line with its star. A run that is shorter has no line there.
-fn print_lines(rt: &HostRuntime, left: &str, right: &str, verdict: &Verdict) -> anyhow::Result<()> {
+fn print_lines<'a>(
+    rt: &HostRuntime,
+    left: &'a str,
+    right: &'a str,
+    verdict: &Verdict,
+) -> anyhow::Result<()> {
+    let blank: &'a str = "";
     let longest = left.lines().count().max(right.lines().count());
-    let mut left_lines = left.lines();
-    let mut right_lines = right.lines();
-    for place in 0..longest {
-        let left_star = star(verdict.left.as_slice(), place);
-        let right_star = star(verdict.right.as_slice(), place);
-        let left_line = left_lines.next().unwrap_or("");
-        let right_line = right_lines.next().unwrap_or("");
-        println!(rt; "{place:>5} {left_star} {left_line:<22} | {right_star} {right_line}")?;
+    let left_lines = left.lines().chain(iter::repeat(blank));
+    let right_lines = right.lines().chain(iter::repeat(blank));
+    for (place, (left, right)) in left_lines.zip(right_lines).take(longest).enumerate() {
+        let left_star = star(&verdict.left, place);
+        let right_star = star(&verdict.right, place);
+        println!(rt; "{place:>5} {left_star} {left:<22} | {right_star} {right}")?;
     }
     Ok(())
 }
@@ -30,7 +36,7 @@ fn print_lines(rt: &HostRuntime, left: &str, right: &str, verdict: &Verdict) -> 
 pub fn print_pair(
     rt: &HostRuntime,
     enclave: u8,
-    pair: &Pair,
+    pair: &Pair<Answered, Answered>,
     verdict: &Verdict,
 ) -> anyhow::Result<()> {
     let heap = rt.alloc();
@@ -40,10 +46,10 @@ pub fn print_pair(
             "The runs differ otherwise than in inward calls of enclave {enclave}, first at call {place}."
         )?,
     }
-    let left = log_text(heap, &pair.left.file, pair.left.answers.as_slice())?;
-    let right = log_text(heap, &pair.right.file, pair.right.answers.as_slice())?;
+    let left = log_text(heap, &pair.left.file, &pair.left.answers)?;
+    let right = log_text(heap, &pair.right.file, &pair.right.answers)?;
     println!(rt; "Answers marked * are enclave {enclave}'s alone:")?;
-    print_lines(rt, left.as_str(), right.as_str(), verdict)?;
+    print_lines(rt, &left, &right, verdict)?;
     match verdict.told {
         None => println!(rt; "Others could tell apart: nothing.")?,
         Some(place) => println!(rt; "Others could tell apart: call {place}.")?,
