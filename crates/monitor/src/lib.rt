@@ -1,4 +1,4 @@
-// The gate of the board, over any memory and any digest.
+// The gate of the board, over any memory and any digest. Each call takes its fields one by one, as a record has them.
 #![tactic(auto)]
 
 ghost use Rattle.std.specs.Prelude.{◌≡◌, length};

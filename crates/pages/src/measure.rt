@@ -1,4 +1,5 @@
-// The measurement of an enclave.
+// The measurement of an enclave. Digest, memory, board and number are passed on one by one: a struct of two `&mut` and a
+// `&`, made for one call, is no plainer.
 ghost use Rattle.std.specs.Prelude.{◌≡◌, ◌+◌, ◌*◌, ◌<◌, ◌≤◌, [], ◌∷◌};
 ghost use Rattle.digest.specs.Meaning.{hash};
 ghost use Rattle.board.specs.Measures.{page_words, measured_page, measured_pages, measured_words};

@@ -27,6 +27,7 @@ enum Step {
     Write(usize, u32),
 }
 
+// What a step is answered: one type for reads and writes, of this program's own, so that it can be printed.
 #[derive(Clone, Copy, PartialEq)]
 enum Answer {
     Word(u32),
