@@ -20,6 +20,7 @@ fn print_lines<'a>(
     right: &'a str,
     verdict: &Verdict,
 ) -> anyhow::Result<()> {
+    // The line of a run that is over, at the lifetime of the lines that it stands among.
     let blank: &'a str = "";
     let longest = left.lines().count().max(right.lines().count());
     let left_lines = left.lines().chain(iter::repeat(blank));
