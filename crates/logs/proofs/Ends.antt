@@ -1,9 +1,9 @@
 -- The lines of answered calls, where going over them ends.
-use Rattle.std.proofs.Common.{◌≡◌, ℕ, ◌+◌, ◌<◌, ◌≤◌, List, [], ◌∷◌, ◌++◌, map, length, get_or, drop, IfOk, Ok, Err, Result, sym, refl, ap, ◌∙◌, append_assoc, append-nil}
+use Rattle.std.proofs.Common.{◌≡◌, ℕ, List, [], ◌∷◌, map, refl, ap, ◌∙◌}
 use Rattle.std.proofs.Common.{subst, None, Option, Bor}
 use Rattle.std.proofs.iter.Yields.{fronts}
 use Rattle.std.proofs.lemmas.Iterator.{zips}
-use Rattle.std.proofs.lemmas.List.{drop_more, at_drop_all, nil_from_length}
+use Rattle.std.proofs.lemmas.List.{nil_from_length}
 use Rattle.std.proofs.lemmas.Slice.Zip.{either_empty_from_Zip}
 use Rattle.std.specs.Iterator.Adapters.{zip_first, zip_second}
 use Rattle.std.specs.Slice.Iter.{iter_rest}
@@ -13,7 +13,7 @@ use mathlib.Core.Logic.{◌⊎◌, inl, inr}
 use Rattle.board.specs.declared.Answer.{Answer}
 use Rattle.board.specs.declared.Call.{Call}
 use Rattle.board.specs.Answers.{Reply, reply_of}
-use Rattle.logs.specs.Text.{hex, words_text, answer_lines}
+use Rattle.logs.specs.Text.{answer_lines}
 
 -- no line where places, calls or answers are at their end
 lines_none : (ps : List ℕ) (cs : List Call) → answer_lines ps cs [] ≡ []
