@@ -33,21 +33,21 @@ module _ {M D : Type 0} (m : Memory.Ghosts M) (h : Meaning) where
   pub record GoesOn (all : List Call) (g : Monitor M D) (earlier : List Answer) (left : List Call) (k : Monitor M D) (now : List Answer) : Type 0 where
     pub ends : (z : Monitor M D) (later : List Answer) → AddsRun m h left k now (Ok tt) z later → AddsRun m h all g earlier (Ok tt) z later
 
-  module _ (all : List Call) (g : Monitor M D) (earlier : List Answer) where
-    module _ (i : ℕ) (k : Monitor M D) (now : List Answer) (on : GoesOn all g earlier (drop i all) k now) where
-      pub stopped : length all ≤ i → AddsRun m h all g earlier (Ok tt) k now
-      stopped e =
-          let P : List Call → Type 0 = λ cs. AddsRun m h cs k now (Ok tt) k now in
-          on.ends k now (subst P (sym (at_drop_all (λ cs. cs) all i e)) ([], sym (append-nil now), record { monitors = []; each = tt; last = refl; answers = refl; states_are = refl }))
+  module _ (all : List Call) (g : Monitor M D) (earlier : List Answer) (i : ℕ) (k : Monitor M D) (now : List Answer) (on : GoesOn all g earlier (drop i all) k now) where
+    pub stopped : length all ≤ i → AddsRun m h all g earlier (Ok tt) k now
+    stopped e =
+        let P : List Call → Type 0 = λ cs. AddsRun m h cs k now (Ok tt) k now in
+        on.ends k now (subst P (sym (at_drop_all (λ cs. cs) all i e)) ([], sym (append-nil now), record { monitors = []; each = tt; last = refl; answers = refl; states_are = refl }))
 
-      pub one_more : (c : Call) (a : Answer) (k' : Monitor M D) (then : List Answer) → i < length all → Does m h (get_or all i c) k (reply_of a) k' → then ≡ now ++ (a ∷ []) → GoesOn all g earlier (drop (i + 1) all) k' then
-      one_more c a k' then l d e =
-          let P : List Call → List Answer → Monitor M D → Type 0 = λ cs later z. AddsRun m h cs k now (Ok tt) z later in
-          record {
-            ends = λ z later r.
-                on.ends z later (subst (λ cs. P cs later z) (sym (drop_more all i c l)) (
-                  a ∷ r.0,
-                  r.1 ∙ ap (λ (xs : List Answer). xs ++ r.0) e ∙ append_assoc now (a ∷ []) r.0,
-                  ran_more (get_or all i c) (drop (i + 1) all) k k' z a r.0 d r.2,
-                ));
-          }
+    -- after one call more
+    pub one_more : (c : Call) (a : Answer) (k' : Monitor M D) (then : List Answer) → i < length all → Does m h (get_or all i c) k (reply_of a) k' → then ≡ now ++ (a ∷ []) → GoesOn all g earlier (drop (i + 1) all) k' then
+    one_more c a k' then l d e =
+        record {
+          ends = λ z later r.
+              let P : List Call → Type 0 = λ cs. AddsRun m h cs k now (Ok tt) z later in
+              on.ends z later (subst P (sym (drop_more all i c l)) (
+                a ∷ r.0,
+                r.1 ∙ ap (λ (xs : List Answer). xs ++ r.0) e ∙ append_assoc now (a ∷ []) r.0,
+                ran_more (get_or all i c) (drop (i + 1) all) k k' z a r.0 d r.2,
+              ));
+        }
