@@ -7,7 +7,8 @@ pub returns-clause-answer : goal.returns-clause-answer
 returns-clause-answer g c = grind (arith, stored_placed)
 
 pub returns-clause-after : goal.returns-clause-after
-returns-clause-after g c = grind (arith, padded_set)
+returns-clause-after g c =
+    rw (c.write.ensures.after, c.pad_of.ensures) (padded_set c.args.self.now.key (g.M.Memory.words c.args.self.now.below) c.args.place c.args.word)
 
 pub returns-clause-declined : goal.returns-clause-declined
 returns-clause-declined g c = λ l. grind (arith, length_placed)
