@@ -15,7 +15,7 @@ impl Context {
 }
 
 impl Enclave {
-    // An enclave that is not there.
+    // An enclave that is not there. A record and no `Option`, since the board has one for each number.
     pub const ABSENT: Enclave = Enclave {
         phase: Phase::Absent,
         first: 0,

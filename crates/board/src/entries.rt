@@ -8,7 +8,7 @@ use crate::items::{pick, put};
 use crate::{Board, Entry};
 
 impl Entry {
-    // An entry that maps nothing.
+    // An entry that maps nothing. An entry and no `Option`, since an empty one keeps its frame.
     pub const UNMAPPED: Entry = Entry {
         frame: 0,
         permission: 0,

@@ -3,7 +3,7 @@
 #![tactic(auto)]
 
 ghost use Rattle.std.specs.Prelude.{◌≡◌, Ok, Err};
-ghost use Rattle.board.specs.Answers.{decline_number};
+ghost use Rattle.board.specs.Answers.{decline_number, entry_words};
 ghost use Rattle.board.specs.declared.Answer.TheVariants.{Done, Word, Mapped, Attested, Declined};
 
 mod enclaves;
@@ -50,7 +50,7 @@ pub struct Enclave {
     pub saved: Context,
 }
 
-// Party 0 is the host, parties 1 to 8 are the enclaves; enclave e has the record at place e - 1.
+// Party 0 is the host, parties 1 to 8 are the enclaves; enclave e has the record at place e - 1. The board has fixed memory.
 #[derive(Drop)]
 pub struct Board {
     pub owners: [u8; 64],
@@ -144,6 +144,19 @@ impl Decline {
         ensures { result ≡ decline_number self }
     {
         self as u32
+    }
+}
+
+// An entry as three words: physical page, permission, mark.
+impl From<Entry> for [u32; 3] {
+    ghost from_gives = { λ entry words. words ≡ entry_words entry };
+
+    fn from(entry: Entry) -> [u32; 3] {
+        [
+            entry.frame.into(),
+            entry.permission.into(),
+            entry.accessed.into(),
+        ]
     }
 }
 

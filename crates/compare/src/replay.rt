@@ -17,7 +17,8 @@ pub struct Answered {
 }
 
 // Reads a file whole, makes its calls to a new monitor over this memory, as far as its first fault, and gives the memory
-// back. Where memory was wanting for the calls or their answers, no call was made.
+// back. Where memory was wanting for the calls or their answers, no call was made. Its parts come one by one, as
+// `run_new` takes them.
 pub fn run_file<M: Memory, D: Digest + Drop>(
     heap: Global,
     memory: M,

@@ -8,7 +8,8 @@ ghost use Rattle.holder.specs.Slots.{lends_line, takes_line, line_next};
 
 use memory::Memory;
 
-// The 16 words of a memory from the place 16 * number on.
+// The 16 words of a memory from the place 16 * number on. That the number is small is no invariant of the type, since the
+// definitions make lines of any number.
 #[derive(Clone, Copy)]
 pub struct Line {
     number: usize,

@@ -12,7 +12,7 @@ pub const A: u8 = 1;
 
 pub const B: u8 = 2;
 
-// What an entry permits, as the sum of read 1, write 2 and execute 4.
+// What an entry permits, as the sum of read 1, write 2 and execute 4: a number, since the gate takes any.
 pub const READ_WRITE: u8 = 3;
 
 const READ_EXECUTE: u8 = 5;

@@ -9,7 +9,8 @@ use runs::every::Ended;
 use std::alloc::Global;
 
 // Makes the calls of a file of records to a new monitor over this memory, as far as its first fault, writes their log,
-// and gives the memory back. Where memory is wanting, either no call was made or all were.
+// and gives the memory back. Where memory is wanting, either no call was made or all were. Its parts come one by one, as
+// `run_file` takes them.
 pub fn log_file<M: Memory, D: Digest + Drop>(
     heap: Global,
     memory: M,

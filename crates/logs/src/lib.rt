@@ -2,7 +2,7 @@
 #![tactic(auto)]
 
 ghost use Rattle.std.specs.Prelude.{◌≡◌, ◌++◌, map, IfOk, string_bytes, OnOk};
-ghost use Rattle.board.specs.Answers.{reply_of, entry_words};
+ghost use Rattle.board.specs.Answers.{reply_of};
 ghost use Rattle.logs.specs.Text.{line, answer_lines, end_line};
 ghost use Rattle.logs.specs.Logs.{Logged};
 
@@ -20,31 +20,20 @@ use std::alloc::{AllocError, Global};
 pub mod every;
 mod text;
 
-// An entry as three words.
-fn words_of(entry: Entry) -> [u32; 3]
-    ensures { result ≡ entry_words entry }
-{
-    [
-        entry.frame.into(),
-        entry.permission.into(),
-        entry.accessed.into(),
-    ]
-}
-
-// Adds the line of an answered call.
+// Adds the line of an answered call. The kind is the byte of its record.
 fn push_answer(text: &mut String, place: usize, kind: u8, answer: Answer) -> Result<(), AllocError>
     ensures { OnOk result (string_bytes text.new ≡ string_bytes text.old ++ line place kind (reply_of answer)) }
 {
     match answer {
         Answer::Done => push_line(text, place, kind, 0, &[]),
         Answer::Word(word) => push_line(text, place, kind, 0, &[word]),
-        Answer::Mapped(entry) => push_line(text, place, kind, 0, &words_of(entry)),
+        Answer::Mapped(entry) => push_line(text, place, kind, 0, &<[u32; 3]>::from(entry)),
         Answer::Attested(words) => push_line(text, place, kind, 0, &words),
         Answer::Declined(decline) => push_line(text, place, kind, decline.number(), &[]),
     }
 }
 
-// Adds a line for each answered call.
+// Adds a line for each answered call. Three lists, as a file and its run have them.
 fn push_answers(
     text: &mut String,
     places: &[usize],

@@ -17,8 +17,7 @@ impl<M: Memory, D: Digest> Monitor<M, D> {
         ensures kept { is_ok result ≡ false → words.new ≡ words.old }
         ensures cleared { is_ok result ≡ true → (D.state self.new.digest ≡ D.meaning.first) × (D.count self.new.digest ≡ 0) }
     {
-        self.questions().may_leave()?;
-        let measurement = self.board.enclave(self.board.running).measurement;
+        let measurement = self.questions().may_leave()?.measurement;
         let tag = tag(&mut self.digest, &self.key, &measurement, word);
         let (front, back) = words.split_at_mut(8);
         front.copy_from_slice(&measurement);

@@ -23,7 +23,8 @@ pub struct Monitor<M, D> {
 }
 
 impl<M: Memory, D: Digest> Monitor<M, D> {
-    // A new monitor over this memory: the host runs, owns every page, and no enclave is there.
+    // A new monitor over this memory: the host runs, owns every page, and no enclave is there. Memory, digest and key come
+    // one by one: they are its fields.
     pub fn new(memory: M, digest: D, key: [u32; 8]) -> Self
         ensures state { state_of M.Memory result ≡ start (M.words memory) }
         ensures memory { result.memory ≡ memory }

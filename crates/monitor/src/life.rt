@@ -150,8 +150,7 @@ impl<M: Memory, D: Digest> Monitor<M, D> {
     pub fn exit(&mut self) -> Result<(), Decline>
         ensures { Does M.Memory D.meaning Exit self.old (reply_by no_words result) self.new }
     {
-        self.questions().may_leave()?;
-        let left = self.board.enclave(self.board.running);
+        let left = self.questions().may_leave()?;
         self.leave(Enclave {
             phase: Phase::Ready,
             ..left
@@ -163,8 +162,7 @@ impl<M: Memory, D: Digest> Monitor<M, D> {
     pub fn pause(&mut self) -> Result<(), Decline>
         ensures { Does M.Memory D.meaning Pause self.old (reply_by no_words result) self.new }
     {
-        self.questions().may_leave()?;
-        let left = self.board.enclave(self.board.running);
+        let left = self.questions().may_leave()?;
         self.leave(Enclave {
             phase: Phase::Paused,
             saved: self.board.live,

@@ -122,7 +122,8 @@ impl Questions<'_> {
         ask(self.board.owner(frame) == 0, Decline::WrongOwner)
     }
 
-    // Of abandon, destroy, enter or resume of this enclave; its record after the call.
+    // Of abandon, destroy, enter or resume of this enclave; its record after the call. The number stands beside the call, since
+    // not every call has one.
     pub fn may_step(&self, number: u8, call: Call) -> Result<Enclave, Decline>
         ensures { Ruled (ask 1 (self.now.size == 4096) ∷ record_questions call self.now.board.now number) (moved call (enclave_of self.now.board.now number)) result }
     {
@@ -141,12 +142,13 @@ impl Questions<'_> {
         Ok(finished)
     }
 
-    // Of exit, pause or attest: an enclave runs.
-    pub fn may_leave(&self) -> Result<(), Decline>
-        ensures { Ruled (ask 1 (self.now.size == 4096) ∷ ask 2 (not (host_runs self.now.board.now)) ∷ []) tt result }
+    // Of exit, pause or attest: an enclave runs; its record.
+    pub fn may_leave(&self) -> Result<Enclave, Decline>
+        ensures { Ruled (ask 1 (self.now.size == 4096) ∷ ask 2 (not (host_runs self.now.board.now)) ∷ []) (enclave_of self.now.board.now self.now.board.now.running) result }
     {
         ask_size(self.size)?;
-        ask(self.board.running != 0, Decline::WrongParty)
+        ask(self.board.running != 0, Decline::WrongParty)?;
+        Ok(self.board.enclave(self.board.running))
     }
 
     // Questions 4 and 5 of a map call.

@@ -21,7 +21,7 @@ fn body_length(kind: u8) -> Option<usize>
     }
 }
 
-// The fault of a record whose body has only `got` bytes.
+// The fault of a record whose body has only `got` bytes, with its byte of kind.
 fn fault(place: usize, kind: u8, got: usize) -> ReadFault
     ensures { result ≡ lacking place kind got (length_of_body kind) }
 {

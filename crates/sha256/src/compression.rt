@@ -165,7 +165,7 @@ pub fn compress(hash: &mut [u32; 8], block: &[u32; 16])
     let mut v = first_rounds(hash, block);
     let mut w = [0; 64];
     w[..16].copy_from_slice(block);
-    // An index, since each word is made from four earlier ones.
+    // An index, since each word is made from four earlier ones: a schedule of its own and one zip proves, and is slower.
     for t in 16..64 {
         w[t] = next_word(&w, t);
         v = turn(v, K[t], w[t]);
