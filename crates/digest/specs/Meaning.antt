@@ -1,5 +1,5 @@
 -- What a digest means, what it makes of a list of words, and HMAC of RFC 2104 over it.
-use Rattle.std.specs.Prelude.{ℕ, ◌+◌, ◌-◌, List, [], ◌∷◌, ◌++◌, map, length, replicate, bit_xor}
+use Rattle.std.specs.Prelude.{◌≡◌, ℕ, ◌+◌, ◌-◌, List, [], ◌∷◌, ◌++◌, map, length, replicate, bit_xor}
 
 -- What a digest means: its first state; the state after a word, where so many words went before;
 -- the eight words that a state and a count come to; and its block length in words.
@@ -14,6 +14,10 @@ pub record Meaning : Type 1 where
 abbrev pub fed : (m : Meaning) → m.State → ℕ → List ℕ → m.State
 fed m s n [] = s
 fed m s n (w ∷ ws) = fed m (m.next s n w) (n + 1) ws
+
+-- A cleared digest: of what it was fed nothing is left.
+abbrev pub Cleared : (m : Meaning) → m.State → ℕ → Type 0
+Cleared m s n = (s ≡ m.first) × (n ≡ 0)
 
 -- The eight words of a whole list of words.
 abbrev pub hash : Meaning → List ℕ → List ℕ

@@ -3,7 +3,7 @@
 
 ghost use Rattle.std.specs.Prelude.{◌≡◌, ℕ, ◌+◌, ◌-◌, ◌<◌, ◌≤◌, List, [], ◌∷◌, ◌++◌, length, Ok, Err};
 ghost use Rattle.digest.specs.Fold.{fold_meaning, zeros};
-ghost use Rattle.digest.specs.Meaning.{Meaning, fed, hash, keyed, hmac};
+ghost use Rattle.digest.specs.Meaning.{Meaning, Cleared, fed, hash, keyed, hmac};
 ghost use Rattle.digest.specs.Numbers.{fault_number};
 ghost use Rattle.std.proofs.Common.{rules};
 
@@ -154,8 +154,7 @@ fn put_key<D: Digest>(digest: &mut D, key: &[u32; 8], mask: u32)
 #[tactic(auto, using(crate::proofs::Feeds::hash_append))]
 fn close<D: Digest>(digest: &mut D, key: &[u32; 8]) -> [u32; 8]
     ensures tag { result ≡ hash D.meaning (keyed D.meaning.block key.now 0x5c5c5c5c ++ D.meaning.sum (D.state digest.old) (D.count digest.old)) }
-    ensures state { D.state digest.new ≡ D.meaning.first }
-    ensures count { D.count digest.new ≡ 0 }
+    ensures cleared { Cleared D.meaning (D.state digest.new) (D.count digest.new) }
 {
     let inner = digest.result();
     put_key(digest, key, OUTER);
@@ -185,8 +184,7 @@ pub fn hmac<D: Digest>(digest: &mut D, key: &[u32; 8], text: &[u32]) -> Result<[
 #[tactic(auto, using(crate::proofs::Feeds::hash_push))]
 pub fn tag<D: Digest>(digest: &mut D, key: &[u32; 8], measurement: &[u32; 8], word: u32) -> [u32; 8]
     ensures tag { result ≡ hmac D.meaning key.now (measurement.now ++ word ∷ []) }
-    ensures state { D.state digest.new ≡ D.meaning.first }
-    ensures count { D.count digest.new ≡ 0 }
+    ensures cleared { Cleared D.meaning (D.state digest.new) (D.count digest.new) }
 {
     put_key(digest, key, INNER);
     put_all(digest, measurement);

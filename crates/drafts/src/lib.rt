@@ -2,6 +2,7 @@
 #![tactic(auto)]
 
 ghost use Rattle.std.specs.Prelude.{◌≡◌, true, is_ok};
+ghost use Rattle.digest.specs.Meaning.{Cleared};
 ghost use Rattle.board.specs.declared.Call.TheVariants.{Open, Add, Finish, Abandon};
 ghost use Rattle.board.specs.Answers.{reply_by, no_words};
 ghost use Rattle.monitor.specs.Gate.{Does};
@@ -63,7 +64,7 @@ impl Draft {
     ) -> Result<(), (Draft, Decline)>
         ensures does { Does M.Memory D.meaning (Finish self.number) monitor.old (finish_reply result) monitor.new }
         ensures draft { GivesBack self result }
-        ensures cleared { is_ok result ≡ true → (D.state monitor.new.digest ≡ D.meaning.first) × (D.count monitor.new.digest ≡ 0) }
+        ensures cleared { is_ok result ≡ true → Cleared D.meaning (D.state monitor.new.digest) (D.count monitor.new.digest) }
     {
         match monitor.finish(self.number) {
             Ok(()) => {

@@ -1,5 +1,6 @@
 // The attestation of the enclave that runs.
 ghost use Rattle.std.specs.Prelude.{◌≡◌, true, false, is_ok};
+ghost use Rattle.digest.specs.Meaning.{Cleared};
 ghost use Rattle.board.specs.declared.Call.TheVariants.{Attest};
 ghost use Rattle.board.specs.Answers.{reply_by};
 ghost use Rattle.monitor.specs.Gate.{Does};
@@ -15,7 +16,7 @@ impl<M: Memory, D: Digest> Monitor<M, D> {
     pub fn attest(&mut self, word: u32, words: &mut [u32; 16]) -> Result<(), Decline>
         ensures does { Does M.Memory D.meaning (Attest word) self.old (reply_by (λ _. words.new) result) self.new }
         ensures kept { is_ok result ≡ false → words.new ≡ words.old }
-        ensures cleared { is_ok result ≡ true → (D.state self.new.digest ≡ D.meaning.first) × (D.count self.new.digest ≡ 0) }
+        ensures cleared { is_ok result ≡ true → Cleared D.meaning (D.state self.new.digest) (D.count self.new.digest) }
     {
         let measurement = self.questions().may_leave()?.measurement;
         let tag = tag(&mut self.digest, &self.key, &measurement, word);

@@ -1,5 +1,6 @@
 // The calls of an enclave's life.
 ghost use Rattle.std.specs.Prelude.{◌≡◌, true, is_ok, if◌then◌else◌};
+ghost use Rattle.digest.specs.Meaning.{Cleared};
 ghost use Rattle.board.specs.declared.Call.TheVariants.{Open, Add, Finish, Abandon, Destroy, Enter, Resume, Exit, Pause};
 ghost use Rattle.board.specs.State.{idle};
 ghost use Rattle.board.specs.Questions.{is_whole};
@@ -53,7 +54,7 @@ impl<M: Memory, D: Digest> Monitor<M, D> {
     // Measures a draft and makes it ready; the digest is then cleared.
     pub fn finish(&mut self, enclave: u8) -> Result<(), Decline>
         ensures does { Does M.Memory D.meaning (Finish enclave) self.old (reply_by no_words result) self.new }
-        ensures cleared { is_ok result ≡ true → (D.state self.new.digest ≡ D.meaning.first) × (D.count self.new.digest ≡ 0) }
+        ensures cleared { is_ok result ≡ true → Cleared D.meaning (D.state self.new.digest) (D.count self.new.digest) }
     {
         let finished = self.questions().may_finish(enclave)?;
         let measurement = measure(&mut self.digest, &mut self.memory, &self.board, enclave);

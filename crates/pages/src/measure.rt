@@ -1,7 +1,7 @@
 // The measurement of an enclave. Digest, memory, board and number are passed on one by one: a struct of two `&mut` and a
 // `&`, made for one call, is no plainer.
 ghost use Rattle.std.specs.Prelude.{◌≡◌, ◌+◌, ◌*◌, ◌<◌, ◌≤◌, [], ◌∷◌};
-ghost use Rattle.digest.specs.Meaning.{hash};
+ghost use Rattle.digest.specs.Meaning.{Cleared, hash};
 ghost use Rattle.board.specs.Measures.{page_words, measured_page, measured_pages, measured_words};
 ghost use Rattle.pages.specs.Fed.{Fed};
 
@@ -70,8 +70,7 @@ pub fn measure<M: Memory, D: Digest>(
 ) -> [u32; 8]
     ensures value { result ≡ hash D.meaning (measured_words (record { board = board.entry.now; words = M.words memory.old }) number) }
     ensures same { M.words memory.new ≡ M.words memory.old }
-    ensures state { D.state digest.new ≡ D.meaning.first }
-    ensures count { D.count digest.new ≡ 0 }
+    ensures cleared { Cleared D.meaning (D.state digest.new) (D.count digest.new) }
 {
     let measured = board.enclave(number);
     digest.clear();
