@@ -41,7 +41,7 @@ fn outcome_of<M: Memory + Drop>(
     })
 }
 
-// Over a word memory of zeros.
+// Over a word memory of zeros. Each of these owns the areas that its memory borrows, so they share `outcome_of` alone.
 fn over_words(heap: Global, bytes: &[u8]) -> Result<Outcome, AllocError> {
     let mut area = vec![in heap; 0u32; WORDS]?;
     outcome_of(heap, log_over(heap, WordMemory::new(&mut area), bytes))

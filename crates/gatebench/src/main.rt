@@ -45,15 +45,14 @@ fn map_all<M: Memory, D: Digest>(monitor: &mut Monitor<M, D>) {
 }
 
 fn asked(rt: &HostRuntime) -> anyhow::Result<u32> {
-    match env::args(rt)?.nth(1) {
-        Some(text) => Ok(text.parse::<u32>()?),
-        None => Ok(2),
-    }
+    let rounds = env::args(rt)?.nth(1).map_or(Ok(2), |text| text.parse())?;
+    Ok(rounds)
 }
 
-// Times what `work` does. What was done goes to the standard output, its milliseconds to the standard error.
+// Times what `work` does. What was done goes to the standard output, its milliseconds to the standard error. The same as in
+// `membench`, since a crate for these lines alone is no plainer.
 fn timed<F: FnOnce() -> u32>(rt: &HostRuntime, what: &str, work: F) -> anyhow::Result<()>
-    requires { F.IsAlwaysCallable work }
+    requires { F.pre work }
 {
     let start = Instant::now(rt)?;
     let res = work();

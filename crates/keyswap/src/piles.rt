@@ -4,7 +4,6 @@ use compare::{Pair, Side};
 use holder::LineHolder;
 use logs::log_text;
 use memory::{ImageMemory, Memory, WordMemory};
-use runs::every::Ended;
 use scrambler::Scrambler;
 use sha256::Sha256;
 use sight::{Run, judge_runs};
@@ -14,6 +13,9 @@ use std::alloc::{AllocError, Global};
 const ENCLAVE: u8 = 3;
 
 const WORDS: usize = 4096;
+
+// The monitors' key.
+const KEY: [u32; 8] = [7; 8];
 
 const PAD_KEY: u32 = 0x9e37_79b9;
 
@@ -27,28 +29,13 @@ pub struct Outcome {
     pub told: Option<usize>,
 }
 
-// Both runs, made over these memories with one key.
-fn made<M: Memory, N: Memory>(
-    heap: Global,
-    left_memory: M,
-    right_memory: N,
-    left: &[u8],
-    right: &[u8],
-) -> Pair<Ended<M, Answered>, Ended<N, Answered>> {
-    compare_files(
-        heap,
-        [7; 8],
-        Side {
-            memory: left_memory,
-            digest: Sha256::new(),
-            run: left,
-        },
-        Side {
-            memory: right_memory,
-            digest: Sha256::new(),
-            run: right,
-        },
-    )
+// A run over a memory.
+fn side<M: Memory>(memory: M, run: &[u8]) -> Side<'_, M, Sha256, u8> {
+    Side {
+        memory,
+        digest: Sha256::new(),
+        run,
+    }
 }
 
 // What two runs that were made so come to.
@@ -79,15 +66,15 @@ fn judged(
     })
 }
 
+// Each of these owns the areas that its memories borrow, so they have no more in common than `side` and `judged`.
 pub fn over_words(heap: Global, left: &[u8], right: &[u8]) -> Result<Outcome, AllocError> {
     let mut left_area = vec![in heap; 0u32; WORDS]?;
     let mut right_area = vec![in heap; 0u32; WORDS]?;
-    let pair = made(
+    let pair = compare_files(
         heap,
-        WordMemory::new(&mut left_area),
-        WordMemory::new(&mut right_area),
-        left,
-        right,
+        KEY,
+        side(WordMemory::new(&mut left_area), left),
+        side(WordMemory::new(&mut right_area), right),
     );
     judged(heap, pair.left.result, pair.right.result)
 }
@@ -97,12 +84,11 @@ pub fn over_images(heap: Global, left: &[u8], right: &[u8]) -> Result<Outcome, A
     let image = vec![in heap; 0u8; 16384]?;
     let mut left_area = vec![in heap; 0xa5a5_a5a5u32; WORDS]?;
     let mut right_area = vec![in heap; 0x5a5a_5a5au32; WORDS]?;
-    let pair = made(
+    let pair = compare_files(
         heap,
-        ImageMemory::new(&image, &mut left_area),
-        ImageMemory::new(&image, &mut right_area),
-        left,
-        right,
+        KEY,
+        side(ImageMemory::new(&image, &mut left_area), left),
+        side(ImageMemory::new(&image, &mut right_area), right),
     );
     judged(heap, pair.left.result, pair.right.result)
 }
@@ -119,12 +105,11 @@ pub fn over_words_and_layers(
     for place in 0..WORDS {
         let _ = scrambler.write(place, 0);
     }
-    let Pair { left, right } = made(
+    let Pair { left, right } = compare_files(
         heap,
-        WordMemory::new(&mut left_area),
-        LineHolder::new(scrambler),
-        left,
-        right,
+        KEY,
+        side(WordMemory::new(&mut left_area), left),
+        side(LineHolder::new(scrambler), right),
     );
     drop(right.memory.end());
     judged(heap, left.result, right.result)

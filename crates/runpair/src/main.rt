@@ -32,6 +32,23 @@ fn asked(rt: &HostRuntime) -> anyhow::Result<u8> {
     }
 }
 
+// A run over a word memory.
+fn side<'a>(words: &'a mut [u32], run: &'a [u8]) -> Side<'a, WordMemory<'a>, Sha256, u8> {
+    Side {
+        memory: WordMemory::new(words),
+        digest: Sha256::new(),
+        run,
+    }
+}
+
+// A run with its answers, as it is judged.
+fn answered(run: &Answered) -> Run<'_> {
+    Run {
+        calls: &run.file.calls,
+        answers: &run.answers,
+    }
+}
+
 // Makes both runs, over word memories of zeros, with a key of zeros.
 fn run_both(
     heap: Global,
@@ -43,16 +60,8 @@ fn run_both(
     let Pair { left, right } = compare_files(
         heap,
         [0; 8],
-        Side {
-            memory: WordMemory::new(&mut left_words),
-            digest: Sha256::new(),
-            run: left,
-        },
-        Side {
-            memory: WordMemory::new(&mut right_words),
-            digest: Sha256::new(),
-            run: right,
-        },
+        side(&mut left_words, left),
+        side(&mut right_words, right),
     );
     Ok(Pair {
         left: left.result?,
@@ -67,17 +76,6 @@ fn main(rt: HostRuntime) -> anyhow::Result<()> {
     rt.stdin().take(MOST).read_to_end(&mut bytes)?;
     let (left, right) = take_two_runs(&bytes)?;
     let pair = run_both(heap, left, right)?;
-    let verdict = judge_runs::<Sha256>(
-        heap,
-        enclave,
-        Run {
-            calls: &pair.left.file.calls,
-            answers: &pair.left.answers,
-        },
-        Run {
-            calls: &pair.right.file.calls,
-            answers: &pair.right.answers,
-        },
-    )?;
+    let verdict = judge_runs::<Sha256>(heap, enclave, answered(&pair.left), answered(&pair.right))?;
     print_pair(&rt, enclave, &pair, &verdict)
 }
