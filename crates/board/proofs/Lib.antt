@@ -22,5 +22,4 @@ pub mod Proved
 pub mod Beside
 pub mod Examples
 pub mod Leaks
-pub mod Releases
 pub mod NothingElse
