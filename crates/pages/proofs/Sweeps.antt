@@ -1,8 +1,8 @@
 -- Going over the pages one by one, to clear those of an enclave.
-use Rattle.std.proofs.Common.{◌≡◌, ℕ, ◌+◌, ◌*◌, ◌<◌, ◌≤◌, true, false, eqb, List, ◌++◌, length, get_or, take, drop, replicate, sym, refl, ap, ◌∙◌, append_assoc, append-nil, arith, drop-drop, take-add}
+use Rattle.std.proofs.Common.{◌≡◌, ℕ, ◌+◌, ◌*◌, ◌<◌, ◌≤◌, true, false, eqb, List, ◌++◌, length, get_or, take, drop, replicate, sym, refl, ap, ◌∙◌, append_assoc, arith, drop-drop, take-add}
 use lib.ListN.{length-replicate}
 use lib.Seq.{paste, take-paste, drop-paste, length-paste}
-use Rattle.std.proofs.lemmas.List.{drop_more, take_all, at_drop_all}
+use Rattle.std.proofs.lemmas.List.{drop_more}
 use Rattle.std.proofs.lemmas.Bool.{eq-eqb, ne_eqb}
 use Rattle.board.specs.Effects.{cleared_words}
 
@@ -40,9 +40,3 @@ wiped_turn os e ws ns all i h t same long inv =
     let room : 64 * i + 64 ≤ length ws = omega arith in
     let full : 64 ≤ length (replicate {A = ℕ} 64 0) = omega (arith, length-replicate {A = ℕ} 64 0) in
     (ap length same ∙ (length-paste ws (64 * i) (replicate 64 0) 64 room full ∙ long), ap (λ (x : List ℕ). Sweep os e x (i + 1)) same ∙ (wiped os e ws i h room (eq-eqb (get_or os i 0) e t) ∙ inv))
-
-pub swept : (os : List ℕ) (e : ℕ) (ws : List ℕ) → length ws ≡ 64 * length os → Sweep os e ws (length os) ≡ ws
-swept os e ws h =
-    let all : length ws ≤ 64 * length os = omega arith in
-    let none : length os ≤ length os = omega arith in
-    rw (at_drop_all (λ (r : List ℕ). cleared_words r e (drop (64 * length os) ws)) os (length os) none, take_all (64 * length os) ws all, append-nil) refl

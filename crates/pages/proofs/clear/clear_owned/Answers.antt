@@ -1,5 +1,5 @@
-use Rattle.std.proofs.Common.{◌≡◌, length, sym, ap, ◌∙◌, arith}
-use Rattle.pages.proofs.Sweeps.{Sweep, kept_turn, wiped_turn, swept}
+use Rattle.std.proofs.Common.{ap, ◌∙◌}
+use Rattle.pages.proofs.Sweeps.{kept_turn, wiped_turn}
 use Rattle.pages.proofs.clear.clear_owned.Goals as goal
 use Rattle.pages.proofs.clear.clear_owned.Goals.{then-owner-number, else-owner-number}
 
@@ -10,10 +10,3 @@ loop-frame-preserved g c =
       | then-owner-number w ↦ wiped_turn c.args.owners.now c.args.number (words c.loop-frame.memory) (words c.if-owner-number.memory) _ c.loop-frame.frame c.loop-frame-test.true w.if-owner-number.true (ap words w.memory-is ∙ w.clear_page.ensures) c.loop-frame.invariant.0 c.loop-frame.invariant.1
       | else-owner-number w ↦ kept_turn c.args.owners.now c.args.number (words c.loop-frame.memory) (words c.if-owner-number.memory) _ c.loop-frame.frame c.loop-frame-test.true w.if-owner-number.false (ap words w.memory-is) c.loop-frame.invariant.0 c.loop-frame.invariant.1
     ]
-
-pub returns : goal.returns
-returns g c =
-    let os = c.args.owners.now in
-    let ws = g.M.Memory.words c.loop-frame.memory in
-    let end : c.loop-frame.frame ≡ length os = omega arith in
-    sym (swept os c.args.number ws c.loop-frame.invariant.0) ∙ (ap (Sweep os c.args.number ws) (sym end) ∙ c.loop-frame.invariant.1)

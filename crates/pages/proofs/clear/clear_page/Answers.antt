@@ -1,9 +1,6 @@
-use Rattle.std.proofs.Common.{ℕ, ◌+◌, ◌*◌, ◌<◌, List, [], length, set, ap, ◌∙◌, arith}
-use Rattle.std.proofs.lemmas.List.Edits.{paste_none, fill_from_more}
+use Rattle.std.proofs.Common.{ℕ, ◌+◌, ◌*◌, ◌<◌, List, length, set, ap, ◌∙◌, arith}
+use Rattle.std.proofs.lemmas.List.Edits.{fill_from_more}
 use Rattle.pages.proofs.clear.clear_page.Goals as goal
-
-pub loop-offset-init : goal.loop-offset-init
-loop-offset-init g c = paste_none (g.M.Memory.words c.args.memory.now) (64 * c.args.frame) []
 
 pub loop-offset-preserved : goal.loop-offset-preserved
 loop-offset-preserved g c =
