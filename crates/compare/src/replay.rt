@@ -9,7 +9,8 @@ use memory::Memory;
 use runs::every::{Ended, run_new};
 use std::alloc::{AllocError, Global};
 
-// A file whose calls were made as far as its first fault, and their answers.
+// A file whose calls were made as far as its first fault, and their answers. What is judged of it is `sight`'s run of lent
+// lists, since `sight` does not stand on the gate.
 #[derive(Drop)]
 pub struct Answered {
     pub file: File,

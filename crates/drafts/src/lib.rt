@@ -1,4 +1,4 @@
-// Drafts of enclaves in the hands of a host program.
+// Drafts of enclaves in the hands of a host program. Each call takes its fields one by one, as the gate does.
 #![tactic(auto)]
 
 ghost use Rattle.std.specs.Prelude.{◌≡◌, true, is_ok};

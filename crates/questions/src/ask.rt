@@ -1,4 +1,5 @@
-// The questions that are put to each call, in rising order: the first no declines it.
+// The questions that are put to each call, in rising order: the first no declines it. The fields of a call come one by one,
+// as the gate takes them.
 ghost use Rattle.std.specs.Prelude.{◌≡◌, not, [], ◌∷◌, if◌then◌else◌, Ok, Err, is_ok, IfOk, IfErr, ◌&&◌, ◌==◌, nat_eq, nat_le, nat_lt};
 ghost use Rattle.board.specs.declared.Phase.TheVariants.{Ready};
 ghost use Rattle.board.specs.declared.Call.TheVariants.{Open, Add, Finish, ReadMap, WriteMap};
