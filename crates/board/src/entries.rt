@@ -1,5 +1,5 @@
 // The maps of the parties.
-ghost use Rattle.std.specs.Prelude.{◌≡◌, slice_set};
+ghost use Rattle.std.specs.Prelude.{◌≡◌, false, slice_set};
 ghost use Rattle.board.specs.State.{entry_of};
 ghost use Rattle.board.specs.Questions.{permits};
 ghost use Rattle.board.specs.Effects.{with_entry, marked};
@@ -14,6 +14,17 @@ impl Entry {
         permission: 0,
         accessed: false,
     };
+
+    // An entry that was not used since it was set.
+    pub fn new(frame: u8, permission: u8) -> Entry
+        ensures { result ≡ record { frame = frame; permission = permission; accessed = false } }
+    {
+        Entry {
+            frame,
+            permission,
+            accessed: false,
+        }
+    }
 
     // Whether it permits a right.
     pub fn permits(self, right: u8) -> bool

@@ -2,6 +2,7 @@
 // disturb in them.
 #![tactic(auto)]
 
+ghost use Rattle.std.specs.Prelude.{◌≡◌};
 ghost use Rattle.compare.specs.Compares.{Compares};
 
 use board::{Answer, Call};
@@ -25,6 +26,21 @@ pub struct Side<'r, M, D, T> {
     pub memory: M,
     pub digest: D,
     pub run: &'r [T],
+}
+
+impl<'r, M, D, T> Side<'r, M, D, T> {
+    // A run that is to be made to a new monitor over this memory.
+    pub fn new(memory: M, digest: D, run: &'r [T]) -> Side<'r, M, D, T>
+        ensures memory { result.memory ≡ memory }
+        ensures digest { result.digest ≡ digest }
+        ensures run { result.run.now ≡ run.now }
+    {
+        Side {
+            memory,
+            digest,
+            run,
+        }
+    }
 }
 
 // Makes two lists of calls to two new monitors with one key, and gives their answers and the memories.

@@ -9,8 +9,8 @@ use memory::Memory;
 use runs::every::{Ended, run_new};
 use std::alloc::{AllocError, Global};
 
-// A file whose calls were made as far as its first fault, and their answers. What is judged of it is `sight`'s run of lent
-// lists, since `sight` does not stand on the gate.
+// A file whose calls were made as far as its first fault, and their answers. Judged are lent lists of them, since
+// `sight` does not stand on the gate and does not know this type.
 #[derive(Drop)]
 pub struct Answered {
     pub file: File,
@@ -18,8 +18,8 @@ pub struct Answered {
 }
 
 // Reads a file whole, makes its calls to a new monitor over this memory, as far as its first fault, and gives the memory
-// back. Where memory was wanting for the calls or their answers, no call was made. Its parts come one by one, as
-// `run_new` takes them.
+// back. Where memory was wanting for the calls or their answers, no call was made. Memory, digest
+// and key come one by one: a struct of them would be made only to be taken apart at once.
 pub fn run_file<M: Memory, D: Digest + Drop>(
     heap: Global,
     memory: M,
@@ -46,7 +46,8 @@ pub fn run_file<M: Memory, D: Digest + Drop>(
 }
 
 // Makes the calls of two files to two new monitors with one key, and gives their answers and the memories. Beside
-// `compare`, since its contract reaches from the bytes on.
+// `compare`, since the contracts differ: this one reaches from the bytes on, and one generic function would need a trait
+// with both.
 pub fn compare_files<M: Memory, N: Memory, D: Digest + Drop>(
     heap: Global,
     key: [u32; 8],

@@ -169,8 +169,7 @@ fn close<D: Digest>(digest: &mut D, key: &[u32; 8]) -> [u32; 8]
 #[tactic(auto, using(crate::proofs::Feeds::hash_append))]
 pub fn hmac<D: Digest>(digest: &mut D, key: &[u32; 8], text: &[u32]) -> Result<[u32; 8], Fault>
     ensures answer { elim result [ Ok tag ↦ (D.meaning.block + length text.now ≤ 65536) × (tag ≡ hmac D.meaning key.now text.now) | Err e ↦ (fault_number e ≡ 13) × (65536 < D.meaning.block + length text.now) ] }
-    ensures state { elim result [ Ok _ ↦ D.state digest.new ≡ D.meaning.first | Err _ ↦ digest.new ≡ digest.old ] }
-    ensures count { elim result [ Ok _ ↦ D.count digest.new ≡ 0 | Err _ ↦ digest.new ≡ digest.old ] }
+    ensures after { elim result [ Ok _ ↦ Cleared D.meaning (D.state digest.new) (D.count digest.new) | Err _ ↦ digest.new ≡ digest.old ] }
 {
     if text.len() > 65536 - D::BLOCK {
         return Err(Fault::Full);

@@ -34,7 +34,7 @@ impl ReadFault {
         }
     }
 
-    // The place of the record's first byte, 0 for a file that is too long.
+    // The place of the record's first byte; for a file that is too long the 0 that its line shows.
     pub fn place(self) -> usize
         ensures { result ≡ fault_place self }
     {
@@ -44,7 +44,7 @@ impl ReadFault {
         }
     }
 
-    // The byte of kind, 0 for a file that is too long.
+    // The byte of kind; for a file that is too long the 0 that its line shows.
     pub fn kind(self) -> u8
         ensures { result ≡ fault_kind self }
     {

@@ -1,4 +1,4 @@
-// The two tenants, built through drafts.
+// The two tenants, built through drafts. The fields of a call come one by one, as the gate takes them.
 ghost use Rattle.std.specs.Prelude.{◌≡◌, IfSome};
 
 use crate::log::Log;

@@ -39,6 +39,7 @@ fn print_outcome(
     Ok(())
 }
 
+// The input is read as in `runpair`: a crate for three lines is no plainer.
 fn main(rt: HostRuntime) -> anyhow::Result<()> {
     let heap = rt.alloc();
     let mut bytes = Vec::new(heap);

@@ -29,15 +29,6 @@ pub struct Outcome {
     pub told: Option<usize>,
 }
 
-// A run over a memory.
-fn side<M: Memory>(memory: M, run: &[u8]) -> Side<'_, M, Sha256, u8> {
-    Side {
-        memory,
-        digest: Sha256::new(),
-        run,
-    }
-}
-
 // What two runs that were made so come to.
 fn judged(
     heap: Global,
@@ -49,14 +40,8 @@ fn judged(
     let verdict = judge_runs::<Sha256>(
         heap,
         ENCLAVE,
-        Run {
-            calls: &left.file.calls,
-            answers: &left.answers,
-        },
-        Run {
-            calls: &right.file.calls,
-            answers: &right.answers,
-        },
+        Run::new(&left.file.calls, &left.answers),
+        Run::new(&right.file.calls, &right.answers),
     )?;
     Ok(Outcome {
         left: log_text(heap, &left.file, &left.answers)?,
@@ -66,15 +51,16 @@ fn judged(
     })
 }
 
-// Each of these owns the areas that its memories borrow, so they have no more in common than `side` and `judged`.
+// Each of these owns the areas that its memories borrow, so they have no more in common than `judged`. A crate for
+// the zeros through a scrambler, which `edges` writes too, is no plainer.
 pub fn over_words(heap: Global, left: &[u8], right: &[u8]) -> Result<Outcome, AllocError> {
     let mut left_area = vec![in heap; 0u32; WORDS]?;
     let mut right_area = vec![in heap; 0u32; WORDS]?;
     let pair = compare_files(
         heap,
         KEY,
-        side(WordMemory::new(&mut left_area), left),
-        side(WordMemory::new(&mut right_area), right),
+        Side::new(WordMemory::new(&mut left_area), Sha256::new(), left),
+        Side::new(WordMemory::new(&mut right_area), Sha256::new(), right),
     );
     judged(heap, pair.left.result, pair.right.result)
 }
@@ -87,8 +73,16 @@ pub fn over_images(heap: Global, left: &[u8], right: &[u8]) -> Result<Outcome, A
     let pair = compare_files(
         heap,
         KEY,
-        side(ImageMemory::new(&image, &mut left_area), left),
-        side(ImageMemory::new(&image, &mut right_area), right),
+        Side::new(
+            ImageMemory::new(&image, &mut left_area),
+            Sha256::new(),
+            left,
+        ),
+        Side::new(
+            ImageMemory::new(&image, &mut right_area),
+            Sha256::new(),
+            right,
+        ),
     );
     judged(heap, pair.left.result, pair.right.result)
 }
@@ -108,8 +102,8 @@ pub fn over_words_and_layers(
     let Pair { left, right } = compare_files(
         heap,
         KEY,
-        side(WordMemory::new(&mut left_area), left),
-        side(LineHolder::new(scrambler), right),
+        Side::new(WordMemory::new(&mut left_area), Sha256::new(), left),
+        Side::new(LineHolder::new(scrambler), Sha256::new(), right),
     );
     drop(right.memory.end());
     judged(heap, left.result, right.result)

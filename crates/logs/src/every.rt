@@ -9,8 +9,8 @@ use runs::every::Ended;
 use std::alloc::Global;
 
 // Makes the calls of a file of records to a new monitor over this memory, as far as its first fault, writes their log,
-// and gives the memory back. Where memory is wanting, either no call was made or all were. Its parts come one by one, as
-// `run_file` takes them.
+// and gives the memory back. Where memory is wanting, either no call was made or all were. Memory, digest and
+// key come one by one: a struct of them would be made only to be taken apart at once.
 pub fn log_file<M: Memory, D: Digest + Drop>(
     heap: Global,
     memory: M,

@@ -20,7 +20,7 @@ use std::alloc::{AllocError, Global};
 pub mod every;
 mod text;
 
-// Adds the line of an answered call. The kind is the byte of its record.
+// Adds the line of an answered call.
 fn push_answer(text: &mut String, place: usize, kind: u8, answer: Answer) -> Result<(), AllocError>
     ensures { OnOk result (string_bytes text.new ≡ string_bytes text.old ++ line place kind (reply_of answer)) }
 {
@@ -33,7 +33,8 @@ fn push_answer(text: &mut String, place: usize, kind: u8, answer: Answer) -> Res
     }
 }
 
-// Adds a line for each answered call. Three lists, as a file and its run have them.
+// Adds a line for each answered call. Three lists: a file has places and calls apart, and to join them with the answers
+// first would copy all three.
 fn push_answers(
     text: &mut String,
     places: &[usize],

@@ -16,7 +16,8 @@ fn push_word(text: &mut String, word: u32) -> Result<(), AllocError>
     Ok(())
 }
 
-// Adds a line: the numbers in decimal, and each word after a space.
+// Adds a line: the numbers in decimal, and each word after a space. The kind is the byte of the file, which need not be a
+// known one and is printed as it stands.
 pub(crate) fn push_line(
     text: &mut String,
     place: usize,

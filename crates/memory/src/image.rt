@@ -13,7 +13,7 @@ pub const MOST_WORDS: usize = 4096;
 pub struct ImageMemory<'i, 'a> {
     image: &'i [u8],
     area: &'a mut [u32],
-    // Which pages are copied to the area.
+    // Which pages are copied to the area. The board has fixed memory.
     copied: [bool; 64],
 }
 

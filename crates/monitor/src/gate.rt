@@ -74,15 +74,8 @@ impl<M: Memory, D: Digest> Monitor<M, D> {
     {
         self.questions()
             .may_write_map(party, page, frame, permission)?;
-        self.board.set_entry(
-            party,
-            page.into(),
-            Entry {
-                frame,
-                permission,
-                accessed: false,
-            },
-        );
+        self.board
+            .set_entry(party, page.into(), Entry::new(frame, permission));
         Ok(())
     }
 }

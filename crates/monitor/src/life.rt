@@ -38,15 +38,8 @@ impl<M: Memory, D: Digest> Monitor<M, D> {
         ensures { Does M.Memory D.meaning (Add enclave page frame permission) self.old (reply_by no_words result) self.new }
     {
         self.questions().may_add(enclave, page, frame, permission)?;
-        self.board.set_entry(
-            enclave,
-            page.into(),
-            Entry {
-                frame,
-                permission,
-                accessed: false,
-            },
-        );
+        self.board
+            .set_entry(enclave, page.into(), Entry::new(frame, permission));
         self.board.set_owner(frame, enclave);
         Ok(())
     }

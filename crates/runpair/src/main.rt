@@ -32,23 +32,6 @@ fn asked(rt: &HostRuntime) -> anyhow::Result<u8> {
     }
 }
 
-// A run over a word memory.
-fn side<'a>(words: &'a mut [u32], run: &'a [u8]) -> Side<'a, WordMemory<'a>, Sha256, u8> {
-    Side {
-        memory: WordMemory::new(words),
-        digest: Sha256::new(),
-        run,
-    }
-}
-
-// A run with its answers, as it is judged.
-fn answered(run: &Answered) -> Run<'_> {
-    Run {
-        calls: &run.file.calls,
-        answers: &run.answers,
-    }
-}
-
 // Makes both runs, over word memories of zeros, with a key of zeros.
 fn run_both(
     heap: Global,
@@ -60,8 +43,8 @@ fn run_both(
     let Pair { left, right } = compare_files(
         heap,
         [0; 8],
-        side(&mut left_words, left),
-        side(&mut right_words, right),
+        Side::new(WordMemory::new(&mut left_words), Sha256::new(), left),
+        Side::new(WordMemory::new(&mut right_words), Sha256::new(), right),
     );
     Ok(Pair {
         left: left.result?,
@@ -76,6 +59,11 @@ fn main(rt: HostRuntime) -> anyhow::Result<()> {
     rt.stdin().take(MOST).read_to_end(&mut bytes)?;
     let (left, right) = take_two_runs(&bytes)?;
     let pair = run_both(heap, left, right)?;
-    let verdict = judge_runs::<Sha256>(heap, enclave, answered(&pair.left), answered(&pair.right))?;
+    let verdict = judge_runs::<Sha256>(
+        heap,
+        enclave,
+        Run::new(&pair.left.file.calls, &pair.left.answers),
+        Run::new(&pair.right.file.calls, &pair.right.answers),
+    )?;
     print_pair(&rt, enclave, &pair, &verdict)
 }

@@ -33,7 +33,8 @@ pub struct Ended<M, T> {
 }
 
 // Makes these calls to a new monitor over this memory, and gives the memory back with their answers. Where there was no
-// room for the answers, no call was made. Memory, digest and key come one by one, as `Monitor::new` takes them.
+// room for the answers, no call was made. Memory, digest and key come one by one: a struct
+// of them would be made only to be taken apart at once.
 pub fn run_new<M: Memory, D: Digest + Drop>(
     heap: Global,
     memory: M,

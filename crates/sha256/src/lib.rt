@@ -13,7 +13,8 @@ mod compression;
 use compression::compress;
 use digest::{Digest, Fault};
 
-// A running SHA-256: the hash value after the whole blocks, the block in hand, and the number of words fed.
+// A running SHA-256: the hash value after the whole blocks, the block in hand, and the number of words fed. The block is an
+// array, as the board has fixed memory.
 #[derive(Clone, Copy)]
 pub struct Sha256 {
     chain: [u32; 8],

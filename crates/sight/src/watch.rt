@@ -88,6 +88,16 @@ pub struct Run<'a> {
     pub answers: &'a [Answer],
 }
 
+impl<'a> Run<'a> {
+    // Calls with their answers.
+    pub fn new(calls: &'a [Call], answers: &'a [Answer]) -> Run<'a>
+        ensures calls { result.calls.now ≡ calls.now }
+        ensures answers { result.answers.now ≡ answers.now }
+    {
+        Run { calls, answers }
+    }
+}
+
 // For each call that was answered, whether it was an inward call of the enclave.
 pub fn inward_marks<D: Digest>(heap: Global, enclave: u8, run: Run) -> Result<Vec<bool>, AllocError>
     ensures marks { IfOk result (λ v. v.items ≡ marks_from enclave at_start run.entry.calls.now (map reply_of run.entry.answers.now)) }

@@ -113,6 +113,29 @@ impl Score {
 // The number of words that a digest takes.
 const MOST: usize = 65536;
 
+// HMAC over a digest of the longest text, and of one word more.
+fn limits_of_hmac<F: Fn(&[u32]) -> Result<[u32; 8], Fault>>(
+    rt: &HostRuntime,
+    score: &mut Score,
+    digest: &str,
+    block: usize,
+    hmac: F,
+    expected: &[u32; 8],
+) -> io::Result<()>
+    requires block { block ≤ 65536 }
+    requires hmac { F.IsAlwaysCallable hmac }
+{
+    let zeros = [0; MOST + 1];
+    let longest = MOST - block;
+    println!(rt; "HMAC over {digest} of {longest} zeros, block {block}")?;
+    score.compare(rt, hmac(&zeros[..longest]), expected)?;
+    println!(rt;
+        "HMAC over {digest} of {} zeros, block {block}",
+        longest + 1
+    )?;
+    score.declines(rt, hmac(&zeros[..=longest]))
+}
+
 // The longest texts, and one word more.
 fn limits(rt: &HostRuntime, score: &mut Score, key: &[u32; 8]) -> io::Result<()> {
     let zeros = [0; MOST + 1];
@@ -127,35 +150,28 @@ fn limits(rt: &HostRuntime, score: &mut Score, key: &[u32; 8]) -> io::Result<()>
     )?;
     println!(rt; "SHA-256 of {} zeros", MOST + 1)?;
     score.declines(rt, hash(&zeros))?;
-    let block = Sha256::BLOCK;
-    let longest = MOST - block;
-    println!(rt; "HMAC over SHA-256 of {longest} zeros, block {block}")?;
-    score.compare(
+    limits_of_hmac(
         rt,
-        hmac_sha256(key, &zeros[..longest]),
+        score,
+        "SHA-256",
+        Sha256::BLOCK,
+        |text: &[u32]| hmac_sha256(key, text),
         &[
             0xdd4a1222, 0x7f3dcc86, 0x671bf44a, 0x240f5a09, 0xcce686ac, 0x73d777b4, 0x5df77df5,
             0x6c958dbf,
         ],
     )?;
-    println!(rt; "HMAC over SHA-256 of {} zeros, block {block}", longest + 1)?;
-    score.declines(rt, hmac_sha256(key, &zeros[..=longest]))?;
-    let block = WideFold::BLOCK;
-    let longest = MOST - block;
-    println!(rt; "HMAC over the wide fold of {longest} zeros, block {block}")?;
-    score.compare(
+    limits_of_hmac(
         rt,
-        hmac_wide(key, &zeros[..longest]),
+        score,
+        "the wide fold",
+        WideFold::BLOCK,
+        |text: &[u32]| hmac_wide(key, text),
         &[
             0xd6565675, 0x56565612, 0xec6c6c5c, 0x6c6c6c2d, 0x5ddddd8c, 0xddddddbf, 0x5dddddaf,
             0xdddddd5e,
         ],
-    )?;
-    println!(rt;
-        "HMAC over the wide fold of {} zeros, block {block}",
-        longest + 1
-    )?;
-    score.declines(rt, hmac_wide(key, &zeros[..=longest]))
+    )
 }
 
 fn main(rt: HostRuntime) -> io::Result<()> {
