@@ -9,8 +9,8 @@ use memory::Memory;
 use runs::every::{Ended, run_new};
 use std::alloc::{AllocError, Global};
 
-// A file whose calls were made as far as its first fault, and their answers. Judged are lent lists of them, since
-// `sight` does not stand on the gate and does not know this type.
+// A file whose calls were made as far as its first fault, and their answers. `sight` judges lent lists of calls
+// and answers: it does not stand on the gate, so it does not know this type.
 #[derive(Drop)]
 pub struct Answered {
     pub file: File,
@@ -47,7 +47,7 @@ pub fn run_file<M: Memory, D: Digest + Drop>(
 
 // Makes the calls of two files to two new monitors with one key, and gives their answers and the memories. Beside
 // `compare`, since the contracts differ: this one reaches from the bytes on, and one generic function would need a trait
-// with both.
+// with both contracts.
 pub fn compare_files<M: Memory, N: Memory, D: Digest + Drop>(
     heap: Global,
     key: [u32; 8],

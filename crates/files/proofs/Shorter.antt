@@ -1,40 +1,10 @@
 -- Reading one record takes a file on by one call and at least one byte.
-use Rattle.std.proofs.Common.{◌≡◌, ℕ, zero, suc, ◌+◌, ◌-◌, ◌<◌, ◌≤◌, Bool, true, false, cond, eqb, leb, List, [], ◌∷◌, ◌++◌, map, length, drop, Some, None, Ok, Err, Option, Result, sym, refl, ap, ◌∙◌, ⊎_elim, append_assoc, append-nil, arith, length-drop}
-use Rattle.std.proofs.lemmas.Bool.{cases_Bool}
+use Rattle.std.proofs.Common.{◌≡◌, ℕ, zero, suc, ◌+◌, ◌-◌, ◌<◌, ◌≤◌, List, [], ◌∷◌, ◌++◌, map, length, Some, None, Ok, Option, Result, sym, refl, ap, ◌∙◌, append_assoc, append-nil, arith}
 use Rattle.board.specs.declared.Call.{Call}
 use Rattle.faults.specs.declared.ReadFault.{ReadFault}
-use Rattle.faults.specs.declared.ReadFault.TheVariants.{UnknownKind}
 use Rattle.faults.specs.declared.RunFault.{RunFault}
-use Rattle.records.specs.Kinds.{Row, rows, row_of, total}
-use Rattle.records.specs.Records.{Read, call_at, by_row, parse}
-use Rattle.files.specs.Files.{Placed, Filed, heard, ends, before, after_read, filed_by, end_by}
-
--- what is read of a body leaves no more than the body
-rest_of_row : (place k : ℕ) (body : List ℕ) (r : Option Row) (c : Call) (t : List ℕ) → by_row place k body r ≡ Ok (Some (c, t)) → length t ≤ length body
-rest_of_row place k body None c t e = let z : ◌≡◌ {A = ℕ} 0 1 = cc in absurd (omega arith)
-rest_of_row place k body (Some r) c t e =
-    ⊎_elim
-    (λ (h : leb (total r.widths) (length body) ≡ true).
-    let f = rw h at e in
-    let g : ◌≡◌ {A = Call × List ℕ} (call_at r.widths r.call body 0, drop (total r.widths) body) (c, t) = cc in
-    omega (arith, ap (λ (p : Call × List ℕ). length p.1) g, length-drop (total r.widths) body))
-    (λ (h : leb (total r.widths) (length body) ≡ false). let f = rw h at e in let z : ◌≡◌ {A = ℕ} 0 1 = cc in absurd (omega arith))
-    (cases_Bool (leb (total r.widths) (length body)))
-
--- what is read leaves fewer bytes
-pub fewer_read : (place : ℕ) (bs : List ℕ) (c : Call) (t : List ℕ) → parse place bs ≡ Ok (Some (c, t)) → length t < length bs
-fewer_read place [] c t e = let z : ◌≡◌ {A = ℕ} 0 1 = cc in absurd (omega arith)
-fewer_read place (k ∷ body) c t e = omega (arith, rest_of_row place k body (row_of k rows) c t e)
-
--- what is heard was read
-read_too : (b : Bool) (f : ReadFault) (x : Read) (p : Call × List ℕ) → cond b (Err f) x ≡ Ok (Some p) → x ≡ Ok (Some p)
-read_too true f x p e = let z : ◌≡◌ {A = ℕ} 0 1 = cc in absurd (omega arith)
-read_too false f x p e = e
-
--- nor does what is heard leave more
-pub fewer_left : (place : ℕ) (bs : List ℕ) (c : Call) (t : List ℕ) → heard place bs ≡ Ok (Some (c, t)) → length t < length bs
-fewer_left place [] c t e = let z : ◌≡◌ {A = ℕ} 0 1 = cc in absurd (omega arith)
-fewer_left place (k ∷ body) c t e = fewer_read place (k ∷ body) c t (read_too (eqb k 17) (UnknownKind place k) _ (c, t) e)
+use Rattle.records.specs.Records.{Read}
+use Rattle.files.specs.Files.{Placed, Filed, ends, before, after_read, filed_by, end_by}
 
 module _ (one : ℕ → List ℕ → Read) where
   -- no bytes, no records

@@ -17,7 +17,7 @@ fn push_word(text: &mut String, word: u32) -> Result<(), AllocError>
 }
 
 // Adds a line: the numbers in decimal, and each word after a space. The kind is the byte of the file, which need not be a
-// known one and is printed as it stands.
+// known one and is printed as it stands, or 0 for a file that is too long.
 pub(crate) fn push_line(
     text: &mut String,
     place: usize,
