@@ -113,19 +113,19 @@ impl Score {
 // The number of words that a digest takes.
 const MOST: usize = 65536;
 
-// HMAC over a digest of the longest text, and of one word more.
+// HMAC over a digest of the longest text, and of one word more. The zeros are its caller's, whose array is large.
 fn limits_of_hmac<F: Fn(&[u32]) -> Result<[u32; 8], Fault>>(
     rt: &HostRuntime,
     score: &mut Score,
     digest: &str,
     block: usize,
     hmac: F,
+    zeros: &[u32; MOST + 1],
     expected: &[u32; 8],
 ) -> io::Result<()>
     requires block { block ≤ 65536 }
     requires hmac { F.IsAlwaysCallable hmac }
 {
-    let zeros = [0; MOST + 1];
     let longest = MOST - block;
     println!(rt; "HMAC over {digest} of {longest} zeros, block {block}")?;
     score.compare(rt, hmac(&zeros[..longest]), expected)?;
@@ -156,6 +156,7 @@ fn limits(rt: &HostRuntime, score: &mut Score, key: &[u32; 8]) -> io::Result<()>
         "SHA-256",
         Sha256::BLOCK,
         |text: &[u32]| hmac_sha256(key, text),
+        &zeros,
         &[
             0xdd4a1222, 0x7f3dcc86, 0x671bf44a, 0x240f5a09, 0xcce686ac, 0x73d777b4, 0x5df77df5,
             0x6c958dbf,
@@ -167,6 +168,7 @@ fn limits(rt: &HostRuntime, score: &mut Score, key: &[u32; 8]) -> io::Result<()>
         "the wide fold",
         WideFold::BLOCK,
         |text: &[u32]| hmac_wide(key, text),
+        &zeros,
         &[
             0xd6565675, 0x56565612, 0xec6c6c5c, 0x6c6c6c2d, 0x5ddddd8c, 0xddddddbf, 0x5dddddaf,
             0xdddddd5e,
