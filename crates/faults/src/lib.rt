@@ -62,6 +62,14 @@ pub struct RunFault {
     pub done: usize,
 }
 
+impl From<(ReadFault, usize)> for RunFault {
+    ghost from_gives = { λ f r. r ≡ record { fault = f.0; done = f.1 } };
+
+    fn from((fault, done): (ReadFault, usize)) -> RunFault {
+        RunFault { fault, done }
+    }
+}
+
 // Why a record is not written: how many bytes the buffer lacks.
 #[derive(Clone, Copy, PartialEq, Eq)]
 pub struct NoRoom {

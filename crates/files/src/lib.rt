@@ -40,8 +40,7 @@ fn read_records<K: Kinds>(
     while !rest.is_empty() {
         let place = bytes.len() - rest.len();
         let done = calls.len();
-        let Some((call, next)) = K::read(rest, place).map_err(|fault| RunFault { fault, done })?
-        else {
+        let Some((call, next)) = K::read(rest, place).map_err(|fault| (fault, done))? else {
             return Ok(done);
         };
         places.push_reserved(place);
@@ -59,7 +58,7 @@ pub fn read_file<K: Kinds>(heap: Global, bytes: &[u8]) -> Result<File, AllocErro
         return Ok(File {
             places: Vec::new(heap),
             calls: Vec::new(heap),
-            end: Err(RunFault { fault, done: 0 }),
+            end: Err(RunFault::from((fault, 0))),
         });
     }
     let mut places = Vec::with_capacity(heap, bytes.len())?;

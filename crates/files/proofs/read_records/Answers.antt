@@ -11,9 +11,9 @@ read_some g c =
     sym c.read.ensures.value ∙ ap seen read
 
 -- a fault ends the records there
-ends_here : (g : _) (c : goal.After-from_residual g) → filed_by g.K.Kinds.one (length c.args.bytes.now - vec_len c.loop-rest.calls) (length c.args.bytes.now - length c.loop-rest.rest.now) c.loop-rest.rest.now ≡ ends (Some c.in_err-call.field-0.0.fault)
+ends_here : (g : _) (c : goal.After-from_residual g) → filed_by g.K.Kinds.one (length c.args.bytes.now - vec_len c.loop-rest.calls) (length c.args.bytes.now - length c.loop-rest.rest.now) c.loop-rest.rest.now ≡ ends (Some c.in_err-call.field-0.0.0)
 ends_here g c =
-    let read : c.read.result ≡ Err c.in_err-call.field-0.0.fault = grind arith in
+    let read : c.read.result ≡ Err c.in_err-call.field-0.0.0 = grind arith in
     stops g.K.Kinds.one (length c.args.bytes.now) (vec_len c.loop-rest.calls) c.loop-rest.rest.now c.loop-rest.invariant.0 (search rules) _ (sym c.read.ensures.value ∙ ap seen read)
 
 pub returns-in_err-call-clause-places : goal.returns-in_err-call-clause-places
@@ -56,6 +56,6 @@ returns g c =
 pub returns-in_err-call-clause-end : goal.returns-in_err-call-clause-end
 returns-in_err-call-clause-end g c =
     let f = c.in_err-call.field-0.0 in
-    let told : c.from_residual.result ≡ Err f = search rules in
-    let done : f.done ≡ vec_len c.loop-rest.calls = grind arith in
-    told ∙ ap (λ (n : _). Err (record { fault = f.fault; done = n })) done ∙ count_end _ _ _ c.loop-rest.invariant.5 _ (ends_here g c)
+    let told : c.from_residual.result ≡ Err (record { fault = f.0; done = f.1 }) = search rules in
+    let done : f.1 ≡ vec_len c.loop-rest.calls = grind arith in
+    told ∙ ap (λ (n : _). Err (record { fault = f.0; done = n })) done ∙ count_end _ _ _ c.loop-rest.invariant.5 _ (ends_here g c)
