@@ -1,5 +1,5 @@
 -- What the lines in the slots mean over the list below.
-use Rattle.std.proofs.Common.{◌≡◌, ℕ, ◌+◌, ◌*◌, ◌%◌, ◌<◌, ◌≤◌, false, ◌≢◌, ◌⊎◌, List, length, get_or, set, Some, None, Option, refl, ap, ◌∙◌, inl, inr, arith}
+use Rattle.std.proofs.Common.{◌≡◌, ℕ, ◌+◌, ◌*◌, ◌/◌, ◌%◌, ◌<◌, ◌≤◌, false, ◌≢◌, ◌⊎◌, List, length, get_or, set, Some, None, Option, refl, ap, ◌∙◌, inl, inr, arith}
 use Rattle.std.proofs.lemmas.List.{get_or-set_same, get_or-set_other, length-set, ext_get_or}
 use Rattle.std.proofs.lemmas.Bool.{cases_eq, cases_lt}
 use Rattle.std.proofs.lemmas.Bool.Decides.{nat_tests}
@@ -8,6 +8,10 @@ use Rattle.memory.proofs.Copies.{length_filled, filled_outside, filled_inside}
 use Rattle.holder.specs.declared.slots.Line.{Line}
 use Rattle.holder.specs.Lines.{line_of, slot_of, holds, laid, overlaid}
 use Rattle.holder.specs.Accesses.{written_down}
+
+-- a place is in the slot of its line
+pub slot_line : (p n : ℕ) → p / 16 ≡ n → slot_of p ≡ slot_of (n * 16)
+slot_line p n e = omega arith
 
 -- the list below has what the slot s means
 abbrev pub Clean : List (Option Line) → List ℕ → ℕ → Type 0
@@ -42,14 +46,14 @@ module _ (lines : List (Option Line)) (s : ℕ) (line : Line) (is : get_or lines
       let at : line.number * 16 + p % 16 ≡ p = omega arith in
       rw at at (filled_inside ws (line.number * 16) (λ k. get_or line.words k 0) 16 (p % 16) (omega arith) (omega arith))
 
-  down_clean : Clean lines down s
+  pub down_clean : Clean lines down s
   down_clean p l q =
       elim (cases_eq (line_of p) line.number) [
         | inl e ↦ grind (arith, nat_tests, length_down, within p)
         | inr ne ↦ grind (arith, nat_tests)
       ]
 
-  down_means : overlaid lines down ≡ overlaid lines ws
+  pub down_means : overlaid lines down ≡ overlaid lines ws
   down_means =
       placed_same (laid lines) (laid lines) down ws length_down
       (λ p l. elim (cases_eq (line_of p) line.number) [
@@ -58,7 +62,7 @@ module _ (lines : List (Option Line)) (s : ℕ) (line : Line) (is : get_or lines
       ])
 
   -- the other slots stay as they are
-  down_others : (t : ℕ) → t ≢ s → Clean lines ws t → Clean lines down t
+  pub down_others : (t : ℕ) → t ≢ s → Clean lines ws t → Clean lines down t
   down_others t ne clean p l q =
       let apart : line_of p ≢ line.number = λ e. ne (omega arith) in
       rw (away p apart) (clean p (omega (arith, length_down)) q)

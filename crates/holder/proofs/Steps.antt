@@ -65,7 +65,7 @@ module _ (lines : List (Option Line)) (ws : List ℕ) (p : ℕ) (line : Line) (l
       }
 
   -- it is taken in, once what stands in its slot is written down
-  abbrev mid : List ℕ
+  abbrev pub mid : List ℕ
   mid = written_down (get_or lines (slot_of p) None) ws
 
   taken_in : is_line (get_or lines (slot_of p) None) (line_of p) ≡ false → whole (length ws) p ≡ true → line ≡ line_at mid (line_of p) → Taken lines ws p line

@@ -27,7 +27,7 @@ Ranged w r = (w.first ≡ r.first) × (w.count ≡ r.count)
 abbrev pub Agrees : ℕ → Watch → Board → Type 0
 Agrees e w b = (w.running ≡ b.running) × Ranged w (enclave_of b e)
 
-start_agrees : (e : ℕ) → Agrees e at_start fresh
+pub start_agrees : (e : ℕ) → Agrees e at_start fresh
 start_agrees e = search (rules, tests)
 
 -- ---- one record replaced
@@ -68,7 +68,7 @@ module _ (h : Meaning) (key : List ℕ) (e : ℕ) (w : Watch) (s : State) (i : S
 
 -- ---- a run
 
-marks_tell : (h : Meaning) (key : List ℕ) (e : ℕ) (cs more : List Call) (w : Watch) (s : State) → Inv s → Agrees e w s.board
+pub marks_tell : (h : Meaning) (key : List ℕ) (e : ℕ) (cs more : List Call) (w : Watch) (s : State) → Inv s → Agrees e w s.board
     → marks_from e w (cs ++ more) (replies (run h key s cs)) ≡ map (inward e) (run h key s cs)
 marks_tell h key e [] more w s i a = refl
 marks_tell h key e (c ∷ cs) more w s i a =
