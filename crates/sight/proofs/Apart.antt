@@ -1,5 +1,5 @@
 -- The first place where two runs differ, in terms of their events.
-use Rattle.std.proofs.Common.{◌≡◌, ℕ, ◌+◌, Bool, true, cond, ◌⊎◌, ◌&&◌, ◌||◌, ◌↔◌, List, [], ◌∷◌, map, Some, None, Decides, Option, rules, tests}
+use Rattle.std.proofs.Common.{◌≡◌, ℕ, ◌+◌, Bool, true, cond, ◌⊎◌, ◌↔◌, List, [], ◌∷◌, map, Some, None, Decides, Option, rules, tests}
 use Rattle.std.specs.List.{zip}
 use Rattle.board.specs.declared.Answer.{Answer}
 use Rattle.board.specs.declared.Call.{Call}
@@ -18,10 +18,6 @@ none_both b o i d k = search (rules, tests)
 
 same_or_inward_decides : (c d : Call) (m n : Bool) → Decides (same_or_inward (c, m) (d, n)) ((c ≡ d) ⊎ ((m ≡ true) × (n ≡ true)))
 same_or_inward_decides c d m n = search (rules, tests)
-
--- the test by an equality of calls is that test
-pub by_equality : (c d : Call) (m n r : Bool) → Decides r (c ≡ d) → (r || (m && n)) ≡ same_or_inward (c, m) (d, n)
-by_equality c d m n r h = search (rules, tests)
 
 only_inward : (e i : ℕ) (xs ys : List Event) → (apart_from same_or_inward i (zip (map (λ x. x.call) xs) (map (inward e) xs)) (zip (map (λ y. y.call) ys) (map (inward e) ys)) ≡ None) ↔ DifferOnlyInward e xs ys
 only_inward e i [] [] = search (rules, tests)
